@@ -1,0 +1,3 @@
+pub mod Rotation
+pub mod Numbers
+pub mod Sums

@@ -1,0 +1,100 @@
+-- Laws of numbers laid out as bytes: lengths, bounds, the way there and back, and bytes laid over a room. Assumes nothing.
+use mathlib.Core.Path.{_≡_, refl, sym, ap, _∙_}
+use mathlib.Core.List.{List, [], _∷_, _++_, append-assoc, append-nil}
+use Prim.Native.Nat.{ℕ, zero, suc, _+_, _-_, _*_, _/_, _%_, _^_, _<_, _≤_}
+use native.Mathlib.Nat.{add-zero, mul-assoc}
+use native.Mathlib.Omega.{arith}
+use lib.ListN.{length, getD, set, take, drop, length-append}
+use lib.Pow.{pow-add, shr-lt}
+use lib.Seq.{sets, take-suc, drop-cons, drop-length}
+use Rattle.words.specs.Bytes.{leBytes, leNumber, swapped, wordsBytes}
+
+pub length-leBytes : (n x : ℕ) → length (leBytes n x) ≡ n
+unfolding leBytes
+length-leBytes zero x = refl
+length-leBytes (suc n) x = ap suc (length-leBytes n (x / 2 ^ 8))
+
+-- bytes laid over a room one after another are laid over it as one list
+pub sets-append : (l : List ℕ) (i : ℕ) (a b : List ℕ) → sets (sets l i a) (i + length a) b ≡ sets l i (a ++ b)
+sets-append l i [] b = ap (λ (k : ℕ). sets l k b) (add-zero i)
+sets-append l i (x ∷ a) b =
+    let e : i + suc (length a) ≡ suc i + length a = omega arith in
+    rw e (sets-append (set l i x) (suc i) a b)
+
+-- four stores, one after another
+pub sets-4 : (l b : List ℕ) (at : ℕ) → length b ≡ 4
+    → set (set (set (set l (at + 0) (getD b 0 0)) (at + 1) (getD b 1 0)) (at + 2) (getD b 2 0)) (at + 3) (getD b 3 0) ≡ sets l at b
+sets-4 l [] at e = absurd (omega arith)
+sets-4 l (x ∷ []) at e = absurd (omega arith)
+sets-4 l (x ∷ y ∷ []) at e = absurd (omega arith)
+sets-4 l (x ∷ y ∷ z ∷ []) at e = absurd (omega arith)
+sets-4 l (x ∷ y ∷ z ∷ w ∷ []) at e =
+    let e0 : at + 0 ≡ at = omega arith in
+    let e1 : at + 1 ≡ suc at = omega arith in
+    let e2 : at + 2 ≡ suc (suc at) = omega arith in
+    let e3 : at + 3 ≡ suc (suc (suc at)) = omega arith in
+    rw (e0, e1, e2, e3)
+sets-4 l (x ∷ y ∷ z ∷ w ∷ v ∷ b) at e = absurd (omega arith)
+
+pub length-wordsBytes : (ws : List ℕ) → length (wordsBytes ws) ≡ 4 * length ws
+unfolding wordsBytes
+length-wordsBytes [] = refl
+length-wordsBytes (w ∷ ws) =
+    simp length-append (omega (arith, length-leBytes 4 w, length-wordsBytes ws))
+
+pub wordsBytes-append : (a b : List ℕ) → wordsBytes (a ++ b) ≡ wordsBytes a ++ wordsBytes b
+unfolding wordsBytes
+wordsBytes-append [] b = refl
+wordsBytes-append (w ∷ a) b = rw (wordsBytes-append a b) (sym (append-assoc (leBytes 4 w) (wordsBytes a) (wordsBytes b)))
+
+-- one more word
+pub wordsBytes-suc : (ws : List ℕ) (i : ℕ) → i < length ws → wordsBytes (take (suc i) ws) ≡ wordsBytes (take i ws) ++ leBytes 4 (getD ws i 0)
+unfolding wordsBytes
+wordsBytes-suc ws i h =
+    rw (take-suc ws i 0 h, wordsBytes-append (take i ws) (getD ws i 0 ∷ []), append-nil (leBytes 4 (getD ws i 0)))
+
+-- a number is what its bytes make, if it has no more
+pub number-bytes : (n x : ℕ) → x < 2 ^ (8 * n) → leNumber (leBytes n x) ≡ x
+unfolding leBytes leNumber
+number-bytes zero x h = omega arith
+number-bytes (suc n) x h =
+    let e : 8 * suc n ≡ 8 * n + 8 = omega arith in
+    let k : x < 2 ^ (8 * n + 8) = rw e at h in
+    let r : leNumber (leBytes n (x / 2 ^ 8)) ≡ x / 2 ^ 8 = number-bytes n (x / 2 ^ 8) (shr-lt (8 * n) 8 k) in
+    omega arith
+
+-- bytes are those of the number that they make
+pub bytes-number : (bs : List ℕ) → ((i : ℕ) → i < length bs → getD bs i 0 < 2 ^ 8) → leBytes (length bs) (leNumber bs) ≡ bs
+unfolding leBytes leNumber
+bytes-number [] h = refl
+bytes-number (b ∷ bs) h =
+    let k : b < 2 ^ 8 = h 0 (omega arith) in
+    let r : leBytes (length bs) (leNumber bs) ≡ bs = bytes-number bs (λ i l. h (suc i) (omega arith)) in
+    let m : (b + 2 ^ 8 * leNumber bs) % 2 ^ 8 ≡ b = omega arith in
+    let d : (b + 2 ^ 8 * leNumber bs) / 2 ^ 8 ≡ leNumber bs = omega arith in
+    rw (m, d, r)
+
+-- the number that n bytes make, read one at a time from a place on
+unfoldable pub num : ℕ → List ℕ → ℕ → ℕ
+num zero bs i = 0
+num (suc n) bs i = getD bs i 0 + 2 ^ 8 * num n bs (suc i)
+
+num-drop : (n : ℕ) (bs : List ℕ) (i : ℕ) → i + n ≡ length bs → num n bs i ≡ leNumber (drop i bs)
+unfolding num leNumber
+num-drop zero bs i e =
+    let k : i ≡ length bs = omega arith in
+    rw (k, drop-length bs)
+num-drop (suc n) bs i e = rw (drop-cons bs i 0 (omega arith), num-drop n bs (suc i) (omega arith))
+
+-- all the bytes of a list, read one at a time
+pub num-all : (n : ℕ) (bs : List ℕ) → length bs ≡ n → num n bs 0 ≡ leNumber bs
+num-all n bs e = num-drop n bs 0 (omega arith)
+
+-- bytes in two runs: the second counts in whole turns of the first
+pub leNumber-append : (a b : List ℕ) → leNumber (a ++ b) ≡ leNumber a + 2 ^ (8 * length a) * leNumber b
+unfolding leNumber
+leNumber-append [] b = omega arith
+leNumber-append (x ∷ a) b =
+    let e : 8 * suc (length a) ≡ 8 + 8 * length a = omega arith in
+    let p : 2 ^ (8 + 8 * length a) * leNumber b ≡ 256 * (2 ^ (8 * length a) * leNumber b) = ap (λ (k : ℕ). k * leNumber b) (pow-add 2 8 (8 * length a)) ∙ mul-assoc 256 (2 ^ (8 * length a)) (leNumber b) in
+    rw (e, p) (omega (arith, leNumber-append a b))

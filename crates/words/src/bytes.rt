@@ -1,0 +1,111 @@
+// Numbers as bytes, little endian, and back.
+ghost use mathlib.Core.Path.{_≡_};
+ghost use Prim.Native.Nat.{_+_, _<_};
+ghost use lib.ListN.{set};
+ghost use lib.Seq.{sets};
+ghost use Rattle.words.specs.Bytes.{leBytes, leNumber, swapped};
+
+// The two bytes of a number.
+pub fn bytes_of_u16(x: u16) -> [u8; 2]
+    ensures { λ r. ⌜ r ≡ leBytes 2 x ⌝ }
+{
+    [(x % 256) as u8, (x / 256 % 256) as u8]
+}
+
+// The four bytes of a number.
+pub fn bytes_of_u32(x: u32) -> [u8; 4]
+    ensures { λ r. ⌜ r ≡ leBytes 4 x ⌝ }
+{
+    let x1 = x / 256;
+    let x2 = x1 / 256;
+    let x3 = x2 / 256;
+    [
+        (x % 256) as u8,
+        (x1 % 256) as u8,
+        (x2 % 256) as u8,
+        (x3 % 256) as u8,
+    ]
+}
+
+// The eight bytes of a number.
+pub fn bytes_of_u64(x: u64) -> [u8; 8]
+    ensures { λ r. ⌜ r ≡ leBytes 8 x ⌝ }
+{
+    let x1 = x / 256;
+    let x2 = x1 / 256;
+    let x3 = x2 / 256;
+    let x4 = x3 / 256;
+    let x5 = x4 / 256;
+    let x6 = x5 / 256;
+    let x7 = x6 / 256;
+    [
+        (x % 256) as u8,
+        (x1 % 256) as u8,
+        (x2 % 256) as u8,
+        (x3 % 256) as u8,
+        (x4 % 256) as u8,
+        (x5 % 256) as u8,
+        (x6 % 256) as u8,
+        (x7 % 256) as u8,
+    ]
+}
+
+// A byte as a word, with its bound.
+fn wide(b: u8) -> u32
+    ensures { λ r. ⌜ (r ≡ b) × (r < 256) ⌝ }
+{
+    b as u32
+}
+
+// The number that two bytes make.
+pub fn u16_of_bytes(b: [u8; 2]) -> u16
+    ensures { λ r. ⌜ r ≡ leNumber b ⌝ }
+{
+    (wide(b[0]) + 256 * wide(b[1])) as u16
+}
+
+// The number that four bytes make.
+pub fn u32_of_bytes(b: [u8; 4]) -> u32
+    ensures { λ r. ⌜ r ≡ leNumber b ⌝ }
+{
+    wide(b[0]) + 256 * (wide(b[1]) + 256 * (wide(b[2]) + 256 * wide(b[3])))
+}
+
+// The number that eight bytes make.
+pub fn u64_of_bytes(b: [u8; 8]) -> u64
+    ensures { λ r. ⌜ r ≡ leNumber b ⌝ }
+{
+    let low = u32_of_bytes([b[0], b[1], b[2], b[3]]);
+    let high = u32_of_bytes([b[4], b[5], b[6], b[7]]);
+    low as u64 + 0x1_0000_0000 * (high as u64)
+}
+
+// A word with its four bytes in the other order.
+pub fn swap_bytes(x: u32) -> u32
+    ensures { λ r. ⌜ r ≡ swapped x ⌝ }
+{
+    let b = bytes_of_u32(x);
+    u32_of_bytes([b[3], b[2], b[1], b[0]])
+}
+
+// A byte laid into a room k places past `at`; where that lies past the room's end, the room stays as it is.
+fn put_byte(out: &mut [u8], at: usize, k: usize, b: u8)
+    ensures { λ _. ⌜ now (out .exit) ≡ set (now (out .entry)) (at + k) b ⌝ }
+{
+    if at < out.len() {
+        if k < out.len() - at {
+            out[at + k] = b;
+        }
+    }
+}
+
+// The four bytes of a number laid over a room from `at` on. What would lie past the room's end is dropped.
+pub fn put_u32(out: &mut [u8], at: usize, x: u32)
+    ensures { λ _. ⌜ now (out .exit) ≡ sets (now (out .entry)) at (leBytes 4 x) ⌝ }
+{
+    let b = bytes_of_u32(x);
+    put_byte(out, at, 0, b[0]);
+    put_byte(out, at, 1, b[1]);
+    put_byte(out, at, 2, b[2]);
+    put_byte(out, at, 3, b[3]);
+}
