@@ -6,7 +6,7 @@ use native.Mathlib.Nat.{add-zero, mul-assoc}
 use native.Mathlib.Omega.{arith}
 use lib.ListN.{length, getD, set, take, drop, length-append}
 use lib.Pow.{pow-add, shr-lt}
-use lib.Seq.{sets, take-suc, drop-cons, drop-length}
+use lib.Seq.{sets, take-suc, drop-cons, drop-length, length-take-le}
 use Rattle.words.specs.Bytes.{leBytes, leNumber, swapped, wordsBytes}
 
 pub length-leBytes : (n x : ℕ) → length (leBytes n x) ≡ n
@@ -98,3 +98,10 @@ leNumber-append (x ∷ a) b =
     let e : 8 * suc (length a) ≡ 8 + 8 * length a = omega arith in
     let p : 2 ^ (8 + 8 * length a) * leNumber b ≡ 256 * (2 ^ (8 * length a) * leNumber b) = ap (λ (k : ℕ). k * leNumber b) (pow-add 2 8 (8 * length a)) ∙ mul-assoc 256 (2 ^ (8 * length a)) (leNumber b) in
     rw (e, p) (omega (arith, leNumber-append a b))
+
+-- the bytes of one more word, laid over a room after those of the words before it
+pub sets-word : (l ws : List ℕ) (i : ℕ) → i < length ws
+    → sets (sets l 0 (wordsBytes (take i ws))) (i * 4) (leBytes 4 (getD ws i 0)) ≡ sets l 0 (wordsBytes (take (suc i) ws))
+sets-word l ws i h =
+    let e : i * 4 ≡ 0 + length (wordsBytes (take i ws)) = omega (arith, length-wordsBytes (take i ws), length-take-le i ws (omega arith)) in
+    rw (e, wordsBytes-suc ws i h) (sets-append l 0 (wordsBytes (take i ws)) (leBytes 4 (getD ws i 0)))
