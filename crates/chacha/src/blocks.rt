@@ -33,13 +33,25 @@ pub fn block(s: [u32; 16]) -> [u32; 16]
     add_words(t, s)
 }
 
-// A block's 64 bytes, laid over a room from its start. A shorter room takes as many as it has; a longer one keeps the rest.
-pub fn put_block(b: [u32; 16], out: &mut [u8])
+// Sixteen words laid over a room as bytes, from its start.
+fn put_words(b: [u32; 16], out: &mut [u8])
     ensures { λ _. ⌜ now (out .exit) ≡ sets (now (out .entry)) 0 (serialize b) ⌝ }
 {
     let mut i: usize = 0;
     while i < 16 {
         put_u32(out, i * 4, b[i]);
         i += 1;
+    }
+}
+
+// A block's 64 bytes, laid over a room from its start. A shorter room takes as many as it has; a longer one keeps the rest.
+// Both ways lead to the same function: of a part whose length is a literal, the compiler drops every test against its end.
+pub fn put_block(b: [u32; 16], out: &mut [u8])
+    ensures { λ _. ⌜ now (out .exit) ≡ sets (now (out .entry)) 0 (serialize b) ⌝ }
+{
+    if 64 <= out.len() {
+        put_words(b, &mut out[..64]);
+    } else {
+        put_words(b, out);
     }
 }

@@ -6,7 +6,8 @@
 //
 // The contracts are equations with specs/Chacha.antt, for every state and every room; nothing is required.
 pub mod blocks;
-mod rounds;
+pub mod rounds;
 
 pub use blocks::block;
 pub use blocks::put_block;
+pub use rounds::quarter_round;

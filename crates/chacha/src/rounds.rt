@@ -18,7 +18,7 @@ fn line(mut s: [u32; 16], k: u32, x: usize, y: usize, z: usize) -> [u32; 16]
 }
 
 // The four lines on the words at x, y, z and w.
-fn quarter_round(s: [u32; 16], x: usize, y: usize, z: usize, w: usize) -> [u32; 16]
+pub fn quarter_round(s: [u32; 16], x: usize, y: usize, z: usize, w: usize) -> [u32; 16]
     requires { ⌜ (x < 16) × (y < 16) × (z < 16) × (w < 16) ⌝ }
     ensures { λ r. ⌜ r ≡ quarterRound x y z w s ⌝ }
 {

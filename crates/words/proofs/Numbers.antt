@@ -4,9 +4,9 @@ use mathlib.Core.List.{List, [], _∷_, _++_, append-assoc, append-nil}
 use Prim.Native.Nat.{ℕ, zero, suc, _+_, _-_, _*_, _/_, _%_, _^_, _<_, _≤_}
 use native.Mathlib.Nat.{add-zero, mul-assoc}
 use native.Mathlib.Omega.{arith}
-use lib.ListN.{length, getD, set, take, drop, length-append}
+use lib.ListN.{length, getD, set, take, drop, length-append, take-append-drop}
 use lib.Pow.{pow-add, shr-lt}
-use lib.Seq.{sets, take-suc, drop-cons, drop-length, length-take-le}
+use lib.Seq.{sets, take-suc, drop-cons, drop-length, length-take-le, take-set-lt, drop-set-lt}
 use Rattle.words.specs.Bytes.{leBytes, leNumber, swapped, wordsBytes}
 
 pub length-leBytes : (n x : ℕ) → length (leBytes n x) ≡ n
@@ -105,3 +105,9 @@ pub sets-word : (l ws : List ℕ) (i : ℕ) → i < length ws
 sets-word l ws i h =
     let e : i * 4 ≡ 0 + length (wordsBytes (take i ws)) = omega (arith, length-wordsBytes (take i ws), length-take-le i ws (omega arith)) in
     rw (e, wordsBytes-suc ws i h) (sets-append l 0 (wordsBytes (take i ws)) (leBytes 4 (getD ws i 0)))
+
+-- bytes laid over the front of a room, where they fit into it, are laid over the room
+pub sets-front : (n : ℕ) (l : List ℕ) (i : ℕ) (vs : List ℕ) → i + length vs ≤ n → sets (take n l) i vs ++ drop n l ≡ sets l i vs
+sets-front n l i [] h = take-append-drop n l
+sets-front n l i (v ∷ vs) h =
+    rw (← take-set-lt n l i v (omega arith), ← drop-set-lt n l i v (omega arith)) (sets-front n (set l i v) (suc i) vs (omega arith))

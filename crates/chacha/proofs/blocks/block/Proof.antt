@@ -13,27 +13,36 @@ use Rattle.chacha.proofs.rounds.inner_block.Reads as inner-block-reads
 
 abbrev Inv-loop : tie.InvT-loop
 Inv-loop s t₀ n₀ t n = (n ≤ 10) × (t ≡ rounds n s)
+
 abbrev μ-loop : tie.MeasureT-loop
 μ-loop s t₀ n₀ t n = 10 - n
+
 loop-holds : tie.Need-loop-holds Inv-loop μ-loop
 unfolding rounds
 loop-holds c = (search needs, refl)
+
 inner-block-requires : tie.Need-inner-block-requires Inv-loop μ-loop
 inner-block-requires c κs = search needs
+
 add-n : tie.Need-add-n Inv-loop μ-loop
 add-n c = search needs
+
 loop-less : tie.Need-loop-less Inv-loop μ-loop
 loop-less c = search needs
+
 loop-again : tie.Need-loop-again Inv-loop μ-loop
 unfolding rounds
 loop-again c = (search needs, rw add-one (c .inner-block .ensures ∙ ap innerBlock (c .before .before .loop .inv .1)))
+
 add-words-requires : tie.Need-add-words-requires Inv-loop μ-loop
 add-words-requires c κs = search needs
+
 returns : tie.Need-returns Inv-loop μ-loop
 unfolding chachaBlock
-returns c = 
+returns c =
     let e : c .before .before .loop .n ≡ 10 = omega arith in
     cc
+
 pub block-spec : {M : Type 1} → statement M
 block-spec =
     tie.close

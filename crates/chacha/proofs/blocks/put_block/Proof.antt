@@ -1,63 +1,53 @@
-use mathlib.Core.Path.{_≡_, refl}
-use Prim.Native.Nat.{_≤_, _-_}
-use lib.ListN.{length, take}
+use mathlib.Core.Path.{_≡_, refl, sym, ap, _∙_}
+use Prim.Native.Nat.{_≤_, _+_}
 use native.Mathlib.Omega.{arith}
-use native.Mathlib.Numerals.{add-one}
-use lib.Seq.{sets, take-length}
+use lib.ListN.{length, take}
+use lib.Seq.{sets, length-take-le}
 use Rattle.words.specs.Bytes.{wordsBytes}
-use Rattle.words.proofs.Numbers.{sets-word}
+use Rattle.words.proofs.Numbers.{length-wordsBytes, sets-front}
 use borrow.Author.Needs.{needs}
 use Rattle.chacha.proofs.blocks.put_block.Statement.{statement}
 use Rattle.chacha.proofs.blocks.put_block.Tie as tie
 use Rattle.chacha.proofs.blocks.put_block.Reads as reads
 use Rattle.chacha.proofs.blocks.put_block.Lts as lts
-use Rattle.words.proofs.put_u32.Reads as put-u32-reads
+use Rattle.chacha.proofs.blocks.put_words.Reads as put-words-reads
 
-abbrev Inv-loop : tie.InvT-loop
-Inv-loop out₀ b i₀ out i = (i ≤ 16) × (length out ≡ length out₀) × (out ≡ sets out₀ 0 (wordsBytes (take i b)))
-abbrev μ-loop : tie.MeasureT-loop
-μ-loop out₀ b i₀ out i = 16 - i
-loop-holds : tie.Need-loop-holds Inv-loop μ-loop
-unfolding wordsBytes
-loop-holds c = (search needs, search needs, refl)
-mul-put-u32 : tie.Need-mul-put-u32 Inv-loop μ-loop
-mul-put-u32 c = search needs
-mul-put-u32-2 : tie.Need-mul-put-u32-2 Inv-loop μ-loop
-mul-put-u32-2 c = search needs
-array-read-put-u32 : tie.Need-array-read-put-u32 Inv-loop μ-loop
-array-read-put-u32 c = search needs
-put-u32-requires : tie.Need-put-u32-requires Inv-loop μ-loop
-put-u32-requires c κs = search needs
-add-i : tie.Need-add-i Inv-loop μ-loop
-add-i c = search needs
-loop-less : tie.Need-loop-less Inv-loop μ-loop
-loop-less c = search needs
-loop-again : tie.Need-loop-again Inv-loop μ-loop
-loop-again c = 
-    let l = c .before .before .before .before .before .loop in
-    let a = c .before .before .before .before .before .before .before .args in
-    (search needs, search needs, rw add-one (cc (sets-word (a .out .now) (a .t1) (l .i) (omega arith))))
-same-length : tie.Need-same-length Inv-loop μ-loop
+slice-relend-prefix-put-words : tie.Need-slice-relend-prefix-put-words
+slice-relend-prefix-put-words c = search needs
+
+slice-aggregate-put-words : tie.Need-slice-aggregate-put-words
+slice-aggregate-put-words c = sym (length-take-le 64 (c .before .before .before .args .out .now) (omega arith))
+
+put-words-requires : tie.Need-put-words-requires
+put-words-requires c κs = search needs
+
+put-words-requires-2 : tie.Need-put-words-requires-2
+put-words-requires-2 c κs = search needs
+
+same-length : tie.Need-same-length
 same-length c = search needs
-returns : tie.Need-returns Inv-loop μ-loop
-returns c = 
-    let l = c .before .loop in
-    let a = c .before .before .before .args in
-    let e : l .i ≡ length (a .t1) = omega arith in
-    cc (take-length (a .t1))
+
+returns : tie.Need-returns
+returns c =
+    let a = c .before .before .before .before .before .before .args in
+    let fits : 0 + length (wordsBytes (a .b)) ≤ 64 = omega (arith, length-wordsBytes (a .b)) in
+    cc (sets-front 64 (a .out .now) 0 (wordsBytes (a .b)) fits)
+
+same-length-2 : tie.Need-same-length-2
+same-length-2 c = search needs
+
+returns-2 : tie.Need-returns-2
+returns-2 c = search needs
+
 pub put-block-spec : {M : Type 1} → statement M
 put-block-spec =
     tie.close
     (tie.spec
-    Inv-loop
-    μ-loop
-    loop-holds
-    mul-put-u32
-    mul-put-u32-2
-    array-read-put-u32
-    put-u32-requires
-    add-i
-    loop-less
-    loop-again
+    slice-relend-prefix-put-words
+    slice-aggregate-put-words
+    put-words-requires
+    put-words-requires-2
     same-length
-    returns)
+    returns
+    same-length-2
+    returns-2)

@@ -33,6 +33,7 @@ quarter-round-requires-8 c κs = search needs
 returns : tie.Need-returns
 unfolding innerBlock
 returns c = cc
+
 pub inner-block-spec : {M : Type 1} → statement M
 inner-block-spec =
     tie.close

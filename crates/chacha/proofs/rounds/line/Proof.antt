@@ -46,6 +46,7 @@ array-write-s-2 c = search needs
 returns : tie.Need-returns
 unfolding line
 returns c = cc
+
 pub line-spec : {M : Type 1} → statement M
 line-spec =
     tie.close

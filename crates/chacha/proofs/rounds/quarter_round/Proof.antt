@@ -21,6 +21,7 @@ line-requires-4 c κs = search needs
 returns : tie.Need-returns
 unfolding quarterRound
 returns c = cc
+
 pub quarter-round-spec : {M : Type 1} → statement M
 quarter-round-spec =
     tie.close (tie.spec line-requires line-requires-2 line-requires-3 line-requires-4 returns)

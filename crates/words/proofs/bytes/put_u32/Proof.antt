@@ -51,8 +51,16 @@ same-length c = search needs
 -- src/bytes.rt:96:1
 returns : tie.Need-returns
 returns c =
-    let start = c .before .before .before .before .before .before .before .before .before .before .before .before .before .before .before .before .before .before in
-    cc (sets-4 (start .args .out .now) (leBytes 4 (start .args .x)) (start .args .at) (length-leBytes 4 (start .args .x)))
+    let d = c .before .before .before .before .before .before .before .before .before .before .before .before .before .before in
+    let start = d .before .before .before .before in
+    rw (
+      c .before .before .put-byte4 .ensures,
+      c .before .before .before .before .before .before .put-byte3 .ensures,
+      c .before .before .before .before .before .before .before .before .before .before .put-byte2 .ensures,
+      d .put-byte .ensures,
+      d .before .before .bytes-of-u32 .ensures,
+    )
+    (sets-4 (start .args .out .now) (leBytes 4 (start .args .x)) (start .args .at) (length-leBytes 4 (start .args .x)))
 
 pub put-u32-spec : {M : Type 1} → statement M
 put-u32-spec =

@@ -1,0 +1,82 @@
+use mathlib.Core.Path.{_≡_, refl, sym, ap, _∙_}
+use Prim.Native.Nat.{_≤_, _-_}
+use borrow.Author.Needs.{needs}
+use lib.ListN.{length}
+use native.Mathlib.Omega.{arith}
+use native.Mathlib.Numerals.{add-one}
+use Rattle.words.specs.Words.{add}
+use Rattle.words.proofs.Sums.{part, part-suc, part-all}
+use Rattle.sha1.proofs.blocks.add_words.Statement.{statement}
+use Rattle.sha1.proofs.blocks.add_words.Tie as tie
+use Rattle.sha1.proofs.blocks.add_words.Reads as reads
+use Rattle.sha1.proofs.blocks.add_words.Lts as lts
+use Rattle.std.proofs.num.wrapping_add_u32.Reads as wrapping-add-u32-reads
+
+abbrev Inv-loop : tie.InvT-loop
+Inv-loop t₀ s i₀ t i = (i ≤ 5) × (t ≡ part add i t₀ s)
+
+abbrev μ-loop : tie.MeasureT-loop
+μ-loop t₀ s i₀ t i = 5 - i
+
+loop-holds : tie.Need-loop-holds Inv-loop μ-loop
+unfolding part
+loop-holds c = (search needs, refl)
+
+mul-wrapping-add-u32 : tie.Need-mul-wrapping-add-u32 Inv-loop μ-loop
+mul-wrapping-add-u32 c = search needs
+
+array-read-wrapping-add-u32 : tie.Need-array-read-wrapping-add-u32 Inv-loop μ-loop
+array-read-wrapping-add-u32 c = search needs
+
+mul-wrapping-add-u32-2 : tie.Need-mul-wrapping-add-u32-2 Inv-loop μ-loop
+mul-wrapping-add-u32-2 c = search needs
+
+array-read-wrapping-add-u32-2 : tie.Need-array-read-wrapping-add-u32-2 Inv-loop μ-loop
+array-read-wrapping-add-u32-2 c = search needs
+
+wrapping-add-u32-requires : tie.Need-wrapping-add-u32-requires Inv-loop μ-loop
+wrapping-add-u32-requires c κs = search needs
+
+mul-t : tie.Need-mul-t Inv-loop μ-loop
+mul-t c = search needs
+
+array-write-t : tie.Need-array-write-t Inv-loop μ-loop
+array-write-t c = search needs
+
+add-i : tie.Need-add-i Inv-loop μ-loop
+add-i c = search needs
+
+loop-less : tie.Need-loop-less Inv-loop μ-loop
+loop-less c = search needs
+
+loop-again : tie.Need-loop-again Inv-loop μ-loop
+loop-again c =
+    let l = c .before .before .loop in
+    let a = c .before .before .before .args in
+    (search needs, cc (add-one (l .i), part-suc add (l .i) (a .t1) (a .t2) (omega arith) (omega arith)))
+
+returns : tie.Need-returns Inv-loop μ-loop
+returns c =
+    let l = c .before .loop in
+    let a = c .before .before .args in
+    let e : l .i ≡ length (a .t1) = omega arith in
+    cc (part-all add (a .t1) (a .t2) (omega arith))
+
+pub add-words-spec : {M : Type 1} → statement M
+add-words-spec =
+    tie.close
+    (tie.spec
+    Inv-loop
+    μ-loop
+    loop-holds
+    mul-wrapping-add-u32
+    array-read-wrapping-add-u32
+    mul-wrapping-add-u32-2
+    array-read-wrapping-add-u32-2
+    wrapping-add-u32-requires
+    mul-t
+    array-write-t
+    add-i
+    loop-less
+    loop-again
+    returns)

@@ -1,0 +1,53 @@
+use mathlib.Core.Path.{_≡_, ap, _∙_}
+use mathlib.Core.List.{List, zipWith}
+use Prim.Native.Nat.{ℕ}
+use Rattle.words.specs.Words.{add}
+use Rattle.sha1.specs.Sha1.{run, schedule, compressed}
+use Rattle.sha1.proofs.Schedule.{by-twenty}
+use borrow.Author.Needs.{needs}
+use Rattle.sha1.proofs.blocks.compress.Statement.{statement}
+use Rattle.sha1.proofs.blocks.compress.Tie as tie
+use Rattle.sha1.proofs.blocks.compress.Reads as reads
+use Rattle.sha1.proofs.blocks.compress.Lts as lts
+use Rattle.sha1.proofs.blocks.add_words.Reads as add-words-reads
+use Rattle.sha1.proofs.message.schedule.Reads as schedule-reads
+use Rattle.sha1.proofs.steps.twenty.Reads as twenty-reads
+
+schedule-requires : tie.Need-schedule-requires
+schedule-requires c κs = search needs
+
+twenty-requires : tie.Need-twenty-requires
+twenty-requires c κs = search needs
+
+twenty-requires-2 : tie.Need-twenty-requires-2
+twenty-requires-2 c κs = search needs
+
+twenty-requires-3 : tie.Need-twenty-requires-3
+twenty-requires-3 c κs = search needs
+
+twenty-requires-4 : tie.Need-twenty-requires-4
+twenty-requires-4 c κs = search needs
+
+add-words-requires : tie.Need-add-words-requires
+add-words-requires c κs = search needs
+
+returns : tie.Need-returns
+unfolding compressed
+returns c =
+    let a = c .before .before .before .before .before .before .before .before .before .before .args in
+    let w = c .before .before .before .before .before .before .before .before .before .schedule .result in
+    c .add-words .ensures
+    ∙ ap (λ (x : List ℕ). zipWith add x (a .h)) (by-twenty w (a .h) _ _ _ _ (c .before .before .before .before .before .before .before .twenty .ensures) (c .before .before .before .before .before .twenty2 .ensures) (c .before .before .before .twenty3 .ensures) (c .before .twenty4 .ensures))
+    ∙ ap (λ (x : List ℕ). zipWith add (run 0 x 80 (a .h)) (a .h)) (c .before .before .before .before .before .before .before .before .before .schedule .ensures)
+
+pub compress-spec : {M : Type 1} → statement M
+compress-spec =
+    tie.close
+    (tie.spec
+    schedule-requires
+    twenty-requires
+    twenty-requires-2
+    twenty-requires-3
+    twenty-requires-4
+    add-words-requires
+    returns)

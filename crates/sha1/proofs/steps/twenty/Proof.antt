@@ -1,0 +1,74 @@
+use mathlib.Core.Path.{_≡_, refl, ap, _∙_}
+use Prim.Native.Nat.{_≤_, _-_, _+_, _*_, _/_}
+use borrow.Author.Needs.{needs}
+use native.Mathlib.Omega.{arith}
+use native.Mathlib.Numerals.{add-one}
+use lib.ListN.{drop}
+use lib.Seq.{getD-drop}
+use Rattle.sha1.specs.Sha1.{step, run}
+use Rattle.sha1.proofs.steps.twenty.Statement.{statement}
+use Rattle.sha1.proofs.steps.twenty.Tie as tie
+use Rattle.sha1.proofs.steps.twenty.Reads as reads
+use Rattle.sha1.proofs.steps.twenty.Lts as lts
+use Rattle.sha1.proofs.steps.step.Reads as step-reads
+
+abbrev Inv-loop : tie.InvT-loop
+Inv-loop p w x₀ n₀ x n = (n ≤ 20) × (x ≡ run (20 * p) (drop (20 * p) w) n x₀)
+
+abbrev μ-loop : tie.MeasureT-loop
+μ-loop p w x₀ n₀ x n = 20 - n
+
+loop-holds : tie.Need-loop-holds Inv-loop μ-loop
+unfolding run
+loop-holds c = (search needs, refl)
+
+mul-step : tie.Need-mul-step Inv-loop μ-loop
+mul-step c = search needs
+
+add-step : tie.Need-add-step Inv-loop μ-loop
+add-step c = search needs
+
+mul-step-2 : tie.Need-mul-step-2 Inv-loop μ-loop
+mul-step-2 c = search needs
+
+element-copy-out-step : tie.Need-element-copy-out-step Inv-loop μ-loop
+element-copy-out-step c = search needs
+
+step-requires : tie.Need-step-requires Inv-loop μ-loop
+step-requires c κs = search needs
+
+add-n : tie.Need-add-n Inv-loop μ-loop
+add-n c = search needs
+
+loop-less : tie.Need-loop-less Inv-loop μ-loop
+loop-less c = search needs
+
+loop-again : tie.Need-loop-again Inv-loop μ-loop
+unfolding run
+loop-again c =
+    let a = c .before .before .before .before .args in
+    let n = c .before .before .before .loop .n in
+    let q : (20 * a .p + n) / 20 ≡ a .p = omega arith in
+    (search needs, rw (add-one, q, getD-drop (20 * a .p) (a .w .now) n 0) (cc))
+
+returns : tie.Need-returns Inv-loop μ-loop
+returns c =
+    let e : c .before .loop .n ≡ 20 = omega arith in
+    cc
+
+pub twenty-spec : {M : Type 1} → statement M
+twenty-spec =
+    tie.close
+    (tie.spec
+    Inv-loop
+    μ-loop
+    loop-holds
+    mul-step
+    add-step
+    mul-step-2
+    element-copy-out-step
+    step-requires
+    add-n
+    loop-less
+    loop-again
+    returns)
