@@ -34,14 +34,14 @@ void plain_sha1(uint32_t h[5], const uint32_t m[16]) {
     for (int t = 0; t < 16; t++) w[t] = m[t];
     for (int t = 16; t < 80; t++) w[t] = ROTL(w[t - 3] ^ w[t - 8] ^ w[t - 14] ^ w[t - 16], 1);
     uint32_t a = h[0], b = h[1], c = h[2], d = h[3], e = h[4];
-    for (int t = 0; t < 80; t++) {
-        uint32_t f, k;
-        if (t < 20) { f = (b & c) | (~b & d); k = 0x5a827999; }
-        else if (t < 40) { f = b ^ c ^ d; k = 0x6ed9eba1; }
-        else if (t < 60) { f = (b & c) | (b & d) | (c & d); k = 0x8f1bbcdc; }
-        else { f = b ^ c ^ d; k = 0xca62c1d6; }
-        uint32_t x = ROTL(a, 5) + f + e + k + w[t];
-        e = d; d = c; c = ROTL(b, 30); b = a; a = x;
+#define TWENTY(from, f, k)                                        \
+    for (int t = from; t < from + 20; t++) {                      \
+        uint32_t x = ROTL(a, 5) + (f) + e + k + w[t];             \
+        e = d; d = c; c = ROTL(b, 30); b = a; a = x;              \
     }
+    TWENTY(0, (b & c) | (~b & d), 0x5a827999)
+    TWENTY(20, b ^ c ^ d, 0x6ed9eba1)
+    TWENTY(40, (b & c) | (b & d) | (c & d), 0x8f1bbcdc)
+    TWENTY(60, b ^ c ^ d, 0xca62c1d6)
     h[0] += a; h[1] += b; h[2] += c; h[3] += d; h[4] += e;
 }

@@ -37,10 +37,10 @@ pub fn block(s: [u32; 16]) -> [u32; 16]
 fn put_words(b: [u32; 16], out: &mut [u8])
     ensures { λ _. ⌜ now (out .exit) ≡ sets (now (out .entry)) 0 (serialize b) ⌝ }
 {
-    let mut i: usize = 0;
-    while i < 16 {
-        put_u32(out, i * 4, b[i]);
-        i += 1;
+    let mut k: usize = 0;
+    while k < 16 {
+        put_u32(out, k * 4, b[k]);
+        k += 1;
     }
 }
 

@@ -30,10 +30,7 @@ fn quarter_rounds() {
     four[2] = 0x9b8d_6f43;
     four[3] = 0x0123_4567;
     let a = chacha::quarter_round(four, 0, 1, 2, 3);
-    print::label(b"RFC 7539 2.1.1 quarter round");
-    let first = [a[0], a[1], a[2], a[3]];
-    print::words(&first);
-    print::end_line();
+    print::words(b"RFC 7539 2.1.1 quarter round:", &[a[0], a[1], a[2], a[3]]);
     let sixteen = [
         0x8795_31e0,
         0xc5ec_f37d,
@@ -53,39 +50,27 @@ fn quarter_rounds() {
         0x91db_d320,
     ];
     let b = chacha::quarter_round(sixteen, 2, 7, 8, 13);
-    print::label(b"RFC 7539 2.2.1 quarter round (2, 7, 8, 13)");
-    print::words(&b);
-    print::end_line();
+    print::words(b"RFC 7539 2.2.1 quarter round (2, 7, 8, 13):", &b);
 }
 
-// The words of the block of a state, and its bytes as they lie in a room.
-fn block(name: &[u8], s: [u32; 16]) {
+// The block of a state, as it lies in a room.
+fn block(label: &[u8], s: [u32; 16]) {
     let b = chacha::block(s);
     let mut room = [0u8; 64];
     chacha::put_block(b, &mut room);
-    print::label(name);
-    print::label(b" words");
-    print::words(&b);
-    print::end_line();
-    print::label(name);
-    print::label(b" bytes");
-    print::bytes(&room);
-    print::end_line();
+    print::bytes(label, &room);
 }
 
-// The same block in a room that is too short and in one that is too long.
+// The words of a block, and its bytes in a room that is too short and in one that is too long.
 fn rooms(s: [u32; 16]) {
-    let mut short = [0xeeu8; 10];
     let b = chacha::block(s);
+    print::words(b"RFC 7539 2.3.2 words:", &b);
+    let mut short = [0xeeu8; 10];
     chacha::put_block(b, &mut short);
-    print::label(b"RFC 7539 2.3.2 in a room of 10");
-    print::bytes(&short);
-    print::end_line();
+    print::bytes(b"RFC 7539 2.3.2 in a room of 10: ", &short);
     let mut long = [0xeeu8; 70];
     chacha::put_block(b, &mut long);
-    print::label(b"RFC 7539 2.3.2 in a room of 70");
-    print::bytes(&long);
-    print::end_line();
+    print::bytes(b"RFC 7539 2.3.2 in a room of 70: ", &long);
 }
 
 pub fn run() {
@@ -103,17 +88,17 @@ pub fn run() {
     let zero = [0u32; 8];
     let none = [0u32; 3];
     let section = state(counting, 1, [0x0900_0000, 0x4a00_0000, 0]);
-    block(b"RFC 7539 2.3.2", section);
+    block(b"RFC 7539 2.3.2: ", section);
     rooms(section);
-    block(b"RFC 7539 A.1 #1", state(zero, 0, none));
-    block(b"RFC 7539 A.1 #2", state(zero, 1, none));
+    block(b"RFC 7539 A.1 #1: ", state(zero, 0, none));
+    block(b"RFC 7539 A.1 #2: ", state(zero, 1, none));
     block(
-        b"RFC 7539 A.1 #3",
+        b"RFC 7539 A.1 #3: ",
         state([0, 0, 0, 0, 0, 0, 0, 0x0100_0000], 1, none),
     );
     block(
-        b"RFC 7539 A.1 #4",
+        b"RFC 7539 A.1 #4: ",
         state([0x0000_ff00, 0, 0, 0, 0, 0, 0, 0], 2, none),
     );
-    block(b"RFC 7539 A.1 #5", state(zero, 0, [0, 0, 0x0200_0000]));
+    block(b"RFC 7539 A.1 #5: ", state(zero, 0, [0, 0, 0x0200_0000]));
 }

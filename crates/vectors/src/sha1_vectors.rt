@@ -59,24 +59,16 @@ fn last(m: &[u8], i: usize, bits: u32) -> [u32; 16]
     b
 }
 
-fn hash(name: &[u8], h: [u32; 5]) {
-    print::label(name);
-    print::words(&h);
-    print::end_line();
-}
-
 pub fn run() {
     let start = sha1::initial_hash();
-    hash(b"FIPS 180-4 initial hash", start);
-    let none = b"";
-    hash(b"SHA-1 of no byte", sha1::compress(start, last(none, 0, 0)));
-    let abc = b"abc";
-    hash(b"SHA-1 of abc", sha1::compress(start, last(abc, 0, 24)));
+    print::words(b"FIPS 180-4 5.3.1 initial hash:", &start);
+    let none = sha1::compress(start, last(b"", 0, 0));
+    print::words(b"SHA-1 of no byte:", &none);
+    let abc = sha1::compress(start, last(b"abc", 0, 24));
+    print::words(b"SHA-1 of abc:", &abc);
     let long = b"abcdbcdecdefdefgefghfghighijhijkijkljklmklmnlmnomnopnopq";
     let first = sha1::compress(start, block(long, 0));
-    hash(b"SHA-1 of abcdbcde..nopq, first block", first);
-    hash(
-        b"SHA-1 of abcdbcde..nopq",
-        sha1::compress(first, last(long, 64, 448)),
-    );
+    print::words(b"SHA-1 of abcdbcde..nopq after one block:", &first);
+    let second = sha1::compress(first, last(long, 64, 448));
+    print::words(b"SHA-1 of abcdbcde..nopq:", &second);
 }

@@ -21,20 +21,11 @@ sets-append l i (x ∷ a) b =
     let e : i + suc (length a) ≡ suc i + length a = omega arith in
     rw e (sets-append (set l i x) (suc i) a b)
 
--- four stores, one after another
-pub sets-4 : (l b : List ℕ) (at : ℕ) → length b ≡ 4
-    → set (set (set (set l (at + 0) (getD b 0 0)) (at + 1) (getD b 1 0)) (at + 2) (getD b 2 0)) (at + 3) (getD b 3 0) ≡ sets l at b
-sets-4 l [] at e = absurd (omega arith)
-sets-4 l (x ∷ []) at e = absurd (omega arith)
-sets-4 l (x ∷ y ∷ []) at e = absurd (omega arith)
-sets-4 l (x ∷ y ∷ z ∷ []) at e = absurd (omega arith)
-sets-4 l (x ∷ y ∷ z ∷ w ∷ []) at e =
-    let e0 : at + 0 ≡ at = omega arith in
-    let e1 : at + 1 ≡ suc at = omega arith in
-    let e2 : at + 2 ≡ suc (suc at) = omega arith in
-    let e3 : at + 3 ≡ suc (suc (suc at)) = omega arith in
-    rw (e0, e1, e2, e3)
-sets-4 l (x ∷ y ∷ z ∷ w ∷ v ∷ b) at e = absurd (omega arith)
+-- one byte more
+pub sets-suc : (l : List ℕ) (at : ℕ) (b : List ℕ) (i : ℕ) → i < length b → set (sets l at (take i b)) (at + i) (getD b i 0) ≡ sets l at (take (suc i) b)
+sets-suc l at b i h =
+    let e : at + i ≡ at + length (take i b) = omega (arith, length-take-le i b (omega arith)) in
+    rw (e, take-suc b i 0 h) (sets-append l at (take i b) (getD b i 0 ∷ []))
 
 pub length-wordsBytes : (ws : List ℕ) → length (wordsBytes ws) ≡ 4 * length ws
 unfolding wordsBytes

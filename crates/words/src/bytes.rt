@@ -9,7 +9,8 @@ ghost use Rattle.words.specs.Bytes.{leBytes, leNumber, swapped};
 pub fn bytes_of_u16(x: u16) -> [u8; 2]
     ensures { λ r. ⌜ r ≡ leBytes 2 x ⌝ }
 {
-    [(x % 256) as u8, (x / 256 % 256) as u8]
+    let z1 = x / 256;
+    [(x % 256) as u8, (z1 % 256) as u8]
 }
 
 // The four bytes of a number.
@@ -31,22 +32,22 @@ pub fn bytes_of_u32(x: u32) -> [u8; 4]
 pub fn bytes_of_u64(x: u64) -> [u8; 8]
     ensures { λ r. ⌜ r ≡ leBytes 8 x ⌝ }
 {
-    let x1 = x / 256;
-    let x2 = x1 / 256;
-    let x3 = x2 / 256;
-    let x4 = x3 / 256;
-    let x5 = x4 / 256;
-    let x6 = x5 / 256;
-    let x7 = x6 / 256;
+    let y1 = x / 256;
+    let y2 = y1 / 256;
+    let y3 = y2 / 256;
+    let y4 = y3 / 256;
+    let y5 = y4 / 256;
+    let y6 = y5 / 256;
+    let y7 = y6 / 256;
     [
         (x % 256) as u8,
-        (x1 % 256) as u8,
-        (x2 % 256) as u8,
-        (x3 % 256) as u8,
-        (x4 % 256) as u8,
-        (x5 % 256) as u8,
-        (x6 % 256) as u8,
-        (x7 % 256) as u8,
+        (y1 % 256) as u8,
+        (y2 % 256) as u8,
+        (y3 % 256) as u8,
+        (y4 % 256) as u8,
+        (y5 % 256) as u8,
+        (y6 % 256) as u8,
+        (y7 % 256) as u8,
     ]
 }
 
@@ -104,8 +105,9 @@ pub fn put_u32(out: &mut [u8], at: usize, x: u32)
     ensures { λ _. ⌜ now (out .exit) ≡ sets (now (out .entry)) at (leBytes 4 x) ⌝ }
 {
     let b = bytes_of_u32(x);
-    put_byte(out, at, 0, b[0]);
-    put_byte(out, at, 1, b[1]);
-    put_byte(out, at, 2, b[2]);
-    put_byte(out, at, 3, b[3]);
+    let mut i: usize = 0;
+    while i < 4 {
+        put_byte(out, at, i, b[i]);
+        i += 1;
+    }
 }

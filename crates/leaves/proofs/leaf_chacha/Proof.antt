@@ -1,10 +1,6 @@
 use borrow.Author.Needs.{needs}
 use Rattle.leaves.proofs.leaf_chacha.Statement.{statement}
 use Rattle.leaves.proofs.leaf_chacha.Tie as tie
-use Rattle.leaves.proofs.leaf_chacha.Reads as reads
-use Rattle.leaves.proofs.leaf_chacha.Lts as lts
-use Rattle.chacha.proofs.block.Reads as block-reads
-use Rattle.chacha.proofs.put_block.Reads as put-block-reads
 
 block-requires : tie.Need-block-requires
 block-requires c κs = search needs

@@ -6,10 +6,6 @@ use Rattle.chacha.specs.Chacha.{innerBlock, rounds, chachaBlock}
 use borrow.Author.Needs.{needs}
 use Rattle.chacha.proofs.blocks.block.Statement.{statement}
 use Rattle.chacha.proofs.blocks.block.Tie as tie
-use Rattle.chacha.proofs.blocks.block.Reads as reads
-use Rattle.chacha.proofs.blocks.block.Lts as lts
-use Rattle.chacha.proofs.blocks.add_words.Reads as add-words-reads
-use Rattle.chacha.proofs.rounds.inner_block.Reads as inner-block-reads
 
 abbrev Inv-loop : tie.InvT-loop
 Inv-loop s t₀ n₀ t n = (n ≤ 10) × (t ≡ rounds n s)
@@ -41,7 +37,7 @@ returns : tie.Need-returns Inv-loop μ-loop
 unfolding chachaBlock
 returns c =
     let e : c .before .before .loop .n ≡ 10 = omega arith in
-    cc
+    rw (c .add-words .ensures, c .before .before .loop .inv .1, e)
 
 pub block-spec : {M : Type 1} → statement M
 block-spec =

@@ -8,9 +8,6 @@ use Rattle.words.proofs.Numbers.{length-wordsBytes, sets-front}
 use borrow.Author.Needs.{needs}
 use Rattle.chacha.proofs.blocks.put_block.Statement.{statement}
 use Rattle.chacha.proofs.blocks.put_block.Tie as tie
-use Rattle.chacha.proofs.blocks.put_block.Reads as reads
-use Rattle.chacha.proofs.blocks.put_block.Lts as lts
-use Rattle.chacha.proofs.blocks.put_words.Reads as put-words-reads
 
 slice-relend-prefix-put-words : tie.Need-slice-relend-prefix-put-words
 slice-relend-prefix-put-words c = search needs
@@ -31,7 +28,7 @@ returns : tie.Need-returns
 returns c =
     let a = c .before .before .before .before .before .before .args in
     let fits : 0 + length (wordsBytes (a .b)) ≤ 64 = omega (arith, length-wordsBytes (a .b)) in
-    cc (sets-front 64 (a .out .now) 0 (wordsBytes (a .b)) fits)
+    rw (c .before .before .put-words .ensures) (sets-front 64 (a .out .now) 0 (wordsBytes (a .b)) fits)
 
 same-length-2 : tie.Need-same-length-2
 same-length-2 c = search needs

@@ -9,15 +9,12 @@ use Rattle.words.proofs.Numbers.{sets-word}
 use borrow.Author.Needs.{needs}
 use Rattle.chacha.proofs.blocks.put_words.Statement.{statement}
 use Rattle.chacha.proofs.blocks.put_words.Tie as tie
-use Rattle.chacha.proofs.blocks.put_words.Reads as reads
-use Rattle.chacha.proofs.blocks.put_words.Lts as lts
-use Rattle.words.proofs.put_u32.Reads as put-u32-reads
 
 abbrev Inv-loop : tie.InvT-loop
-Inv-loop out₀ b i₀ out i = (i ≤ 16) × (length out ≡ length out₀) × (out ≡ sets out₀ 0 (wordsBytes (take i b)))
+Inv-loop out₀ b k₀ out k = (k ≤ 16) × (length out ≡ length out₀) × (out ≡ sets out₀ 0 (wordsBytes (take k b)))
 
 abbrev μ-loop : tie.MeasureT-loop
-μ-loop out₀ b i₀ out i = 16 - i
+μ-loop out₀ b k₀ out k = 16 - k
 
 loop-holds : tie.Need-loop-holds Inv-loop μ-loop
 unfolding wordsBytes
@@ -35,8 +32,8 @@ array-read-put-u32 c = search needs
 put-u32-requires : tie.Need-put-u32-requires Inv-loop μ-loop
 put-u32-requires c κs = search needs
 
-add-i : tie.Need-add-i Inv-loop μ-loop
-add-i c = search needs
+add-k : tie.Need-add-k Inv-loop μ-loop
+add-k c = search needs
 
 loop-less : tie.Need-loop-less Inv-loop μ-loop
 loop-less c = search needs
@@ -45,7 +42,7 @@ loop-again : tie.Need-loop-again Inv-loop μ-loop
 loop-again c =
     let l = c .before .before .before .before .before .loop in
     let a = c .before .before .before .before .before .before .before .args in
-    (search needs, search needs, rw add-one (cc (sets-word (a .out .now) (a .t1) (l .i) (omega arith))))
+    (search needs, search needs, rw (add-one, c .before .before .put-u32 .ensures, l .inv .2) (sets-word (a .out .now) (a .t1) (l .k) (omega arith)))
 
 same-length : tie.Need-same-length Inv-loop μ-loop
 same-length c = search needs
@@ -54,8 +51,8 @@ returns : tie.Need-returns Inv-loop μ-loop
 returns c =
     let l = c .before .loop in
     let a = c .before .before .before .args in
-    let e : l .i ≡ length (a .t1) = omega arith in
-    cc (take-length (a .t1))
+    let e : l .k ≡ length (a .t1) = omega arith in
+    rw (l .inv .2, e, take-length (a .t1))
 
 pub put-words-spec : {M : Type 1} → statement M
 put-words-spec =
@@ -68,7 +65,7 @@ put-words-spec =
     mul-put-u32-2
     array-read-put-u32
     put-u32-requires
-    add-i
+    add-k
     loop-less
     loop-again
     same-length

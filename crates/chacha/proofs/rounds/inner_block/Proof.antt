@@ -2,9 +2,6 @@ use Rattle.chacha.specs.Chacha.{innerBlock}
 use borrow.Author.Needs.{needs}
 use Rattle.chacha.proofs.rounds.inner_block.Statement.{statement}
 use Rattle.chacha.proofs.rounds.inner_block.Tie as tie
-use Rattle.chacha.proofs.rounds.inner_block.Reads as reads
-use Rattle.chacha.proofs.rounds.inner_block.Lts as lts
-use Rattle.chacha.proofs.rounds.quarter_round.Reads as quarter-round-reads
 
 quarter-round-requires : tie.Need-quarter-round-requires
 quarter-round-requires c κs = search needs
@@ -32,7 +29,7 @@ quarter-round-requires-8 c κs = search needs
 
 returns : tie.Need-returns
 unfolding innerBlock
-returns c = cc
+returns c = rw (c .quarter-round8 .ensures, c .before .quarter-round7 .ensures, c .before .before .quarter-round6 .ensures, c .before .before .before .quarter-round5 .ensures, c .before .before .before .before .quarter-round4 .ensures, c .before .before .before .before .before .quarter-round3 .ensures, c .before .before .before .before .before .before .quarter-round2 .ensures, c .before .before .before .before .before .before .before .quarter-round .ensures)
 
 pub inner-block-spec : {M : Type 1} → statement M
 inner-block-spec =

@@ -2,10 +2,6 @@ use Rattle.chacha.specs.Chacha.{line}
 use borrow.Author.Needs.{needs}
 use Rattle.chacha.proofs.rounds.line.Statement.{statement}
 use Rattle.chacha.proofs.rounds.line.Tie as tie
-use Rattle.chacha.proofs.rounds.line.Reads as reads
-use Rattle.chacha.proofs.rounds.line.Lts as lts
-use Rattle.std.proofs.num.wrapping_add_u32.Reads as wrapping-add-u32-reads
-use Rattle.words.proofs.rotate_left.Reads as rotate-left-reads
 
 mul-wrapping-add-u32 : tie.Need-mul-wrapping-add-u32
 mul-wrapping-add-u32 c = search needs
@@ -45,7 +41,7 @@ array-write-s-2 c = search needs
 
 returns : tie.Need-returns
 unfolding line
-returns c = cc
+returns c = rw (c .rotate-left .ensures, c .before .wrapping-add-u32 .ensures)
 
 pub line-spec : {M : Type 1} → statement M
 line-spec =

@@ -2,9 +2,6 @@ use Rattle.chacha.specs.Chacha.{quarterRound}
 use borrow.Author.Needs.{needs}
 use Rattle.chacha.proofs.rounds.quarter_round.Statement.{statement}
 use Rattle.chacha.proofs.rounds.quarter_round.Tie as tie
-use Rattle.chacha.proofs.rounds.quarter_round.Reads as reads
-use Rattle.chacha.proofs.rounds.quarter_round.Lts as lts
-use Rattle.chacha.proofs.rounds.line.Reads as line-reads
 
 line-requires : tie.Need-line-requires
 line-requires c κs = search needs
@@ -20,7 +17,7 @@ line-requires-4 c κs = search needs
 
 returns : tie.Need-returns
 unfolding quarterRound
-returns c = cc
+returns c = rw (c .line4 .ensures, c .before .line3 .ensures, c .before .before .line2 .ensures, c .before .before .before .line .ensures)
 
 pub quarter-round-spec : {M : Type 1} → statement M
 quarter-round-spec =

@@ -7,11 +7,6 @@ use Rattle.sha1.proofs.Schedule.{by-twenty}
 use borrow.Author.Needs.{needs}
 use Rattle.sha1.proofs.blocks.compress.Statement.{statement}
 use Rattle.sha1.proofs.blocks.compress.Tie as tie
-use Rattle.sha1.proofs.blocks.compress.Reads as reads
-use Rattle.sha1.proofs.blocks.compress.Lts as lts
-use Rattle.sha1.proofs.blocks.add_words.Reads as add-words-reads
-use Rattle.sha1.proofs.message.schedule.Reads as schedule-reads
-use Rattle.sha1.proofs.steps.twenty.Reads as twenty-reads
 
 schedule-requires : tie.Need-schedule-requires
 schedule-requires c κs = search needs

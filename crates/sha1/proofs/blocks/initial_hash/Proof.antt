@@ -2,8 +2,6 @@ use mathlib.Core.Path.{refl}
 use Rattle.sha1.specs.Sha1.{initialHash}
 use Rattle.sha1.proofs.blocks.initial_hash.Statement.{statement}
 use Rattle.sha1.proofs.blocks.initial_hash.Tie as tie
-use Rattle.sha1.proofs.blocks.initial_hash.Reads as reads
-use Rattle.sha1.proofs.blocks.initial_hash.Lts as lts
 
 returns : tie.Need-returns
 unfolding initialHash

@@ -9,9 +9,6 @@ use Rattle.sha1.specs.Sha1.{nextWord, schedule}
 use Rattle.sha1.proofs.Schedule.{grow}
 use Rattle.sha1.proofs.message.schedule.Statement.{statement}
 use Rattle.sha1.proofs.message.schedule.Tie as tie
-use Rattle.sha1.proofs.message.schedule.Reads as reads
-use Rattle.sha1.proofs.message.schedule.Lts as lts
-use Rattle.words.proofs.rotate_left.Reads as rotate-left-reads
 
 abbrev Inv-loop : tie.InvT-loop
 Inv-loop m w₀ i₀ w i = (i ≤ 16) × (length w ≡ 80) × (take i w ≡ take i m)

@@ -3,8 +3,6 @@ use Prim.Native.Nat.{ℕ, zero, suc}
 use Rattle.sha1.specs.Sha1.{mix, ch, parity, maj}
 use Rattle.sha1.proofs.steps.mix.Statement.{statement}
 use Rattle.sha1.proofs.steps.mix.Tie as tie
-use Rattle.sha1.proofs.steps.mix.Reads as reads
-use Rattle.sha1.proofs.steps.mix.Lts as lts
 
 other : (p : ℕ) → (p ≡ 0 → ⊥) → (p ≡ 2 → ⊥) → (x y z : ℕ) → parity x y z ≡ mix p x y z
 unfolding mix

@@ -2,11 +2,6 @@ use Rattle.sha1.specs.Sha1.{step, constant}
 use borrow.Author.Needs.{needs}
 use Rattle.sha1.proofs.steps.step.Statement.{statement}
 use Rattle.sha1.proofs.steps.step.Tie as tie
-use Rattle.sha1.proofs.steps.step.Reads as reads
-use Rattle.sha1.proofs.steps.step.Lts as lts
-use Rattle.words.proofs.rotate_left.Reads as rotate-left-reads
-use Rattle.sha1.proofs.steps.mix.Reads as mix-reads
-use Rattle.std.proofs.num.wrapping_add_u32.Reads as wrapping-add-u32-reads
 
 array-read-rotate-left : tie.Need-array-read-rotate-left
 array-read-rotate-left c = search needs

@@ -8,9 +8,6 @@ use lib.Seq.{getD-drop}
 use Rattle.sha1.specs.Sha1.{step, run}
 use Rattle.sha1.proofs.steps.twenty.Statement.{statement}
 use Rattle.sha1.proofs.steps.twenty.Tie as tie
-use Rattle.sha1.proofs.steps.twenty.Reads as reads
-use Rattle.sha1.proofs.steps.twenty.Lts as lts
-use Rattle.sha1.proofs.steps.step.Reads as step-reads
 
 abbrev Inv-loop : tie.InvT-loop
 Inv-loop p w x₀ n₀ x n = (n ≤ 20) × (x ≡ run (20 * p) (drop (20 * p) w) n x₀)
@@ -49,7 +46,7 @@ loop-again c =
     let a = c .before .before .before .before .args in
     let n = c .before .before .before .loop .n in
     let q : (20 * a .p + n) / 20 ≡ a .p = omega arith in
-    (search needs, rw (add-one, q, getD-drop (20 * a .p) (a .w .now) n 0) (cc))
+    (search needs, rw (add-one, q, getD-drop (20 * a .p) (a .w .now) n 0, c .step .ensures, c .before .before .before .loop .inv .1))
 
 returns : tie.Need-returns Inv-loop μ-loop
 returns c =

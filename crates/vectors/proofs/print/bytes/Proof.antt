@@ -3,19 +3,12 @@ use lib.ListN.{length}
 use borrow.Author.Needs.{needs}
 use Rattle.vectors.proofs.print.bytes.Statement.{statement}
 use Rattle.vectors.proofs.print.bytes.Tie as tie
-use Rattle.vectors.proofs.print.bytes.Reads as reads
-use Rattle.vectors.proofs.print.bytes.Lts as lts
-use Rattle.io.proofs.write_all.Reads as write-all-reads
-use Rattle.vectors.proofs.print.byte.Reads as byte-reads
 
 abbrev Inv-loop : tie.InvT-loop
-Inv-loop bs i₀ i = i ≤ length bs
+Inv-loop label bs i₀ t4 i = i ≤ length bs
 
 abbrev μ-loop : tie.MeasureT-loop
-μ-loop bs i₀ i = length bs - i
-
-slice-aggregate-write-all : tie.Need-slice-aggregate-write-all Inv-loop μ-loop
-slice-aggregate-write-all c = search needs
+μ-loop label bs i₀ t4 i = length bs - i
 
 write-all-requires : tie.Need-write-all-requires Inv-loop μ-loop
 write-all-requires c κs = search needs
@@ -38,6 +31,12 @@ loop-less c = search needs
 loop-again : tie.Need-loop-again Inv-loop μ-loop
 loop-again c = search needs
 
+slice-aggregate-write-all : tie.Need-slice-aggregate-write-all Inv-loop μ-loop
+slice-aggregate-write-all c = search needs
+
+write-all-requires-2 : tie.Need-write-all-requires-2 Inv-loop μ-loop
+write-all-requires-2 c κs = search needs
+
 returns : tie.Need-returns Inv-loop μ-loop
 returns c = search needs
 
@@ -47,7 +46,6 @@ bytes-spec =
     (tie.spec
     Inv-loop
     μ-loop
-    slice-aggregate-write-all
     write-all-requires
     loop-holds
     shared-slice-read-byte
@@ -55,4 +53,6 @@ bytes-spec =
     add-i
     loop-less
     loop-again
+    slice-aggregate-write-all
+    write-all-requires-2
     returns)

@@ -3,15 +3,15 @@ use lib.ListN.{length}
 use borrow.Author.Needs.{needs}
 use Rattle.vectors.proofs.print.words.Statement.{statement}
 use Rattle.vectors.proofs.print.words.Tie as tie
-use Rattle.vectors.proofs.print.words.Reads as reads
-use Rattle.vectors.proofs.print.words.Lts as lts
-use Rattle.vectors.proofs.print.word.Reads as word-reads
 
 abbrev Inv-loop : tie.InvT-loop
-Inv-loop ws i₀ i = i ≤ length ws
+Inv-loop label ws i₀ t4 i = i ≤ length ws
 
 abbrev μ-loop : tie.MeasureT-loop
-μ-loop ws i₀ i = length ws - i
+μ-loop label ws i₀ t4 i = length ws - i
+
+write-all-requires : tie.Need-write-all-requires Inv-loop μ-loop
+write-all-requires c κs = search needs
 
 loop-holds : tie.Need-loop-holds Inv-loop μ-loop
 loop-holds c = search needs
@@ -34,6 +34,12 @@ loop-less c = search needs
 loop-again : tie.Need-loop-again Inv-loop μ-loop
 loop-again c = search needs
 
+slice-aggregate-write-all : tie.Need-slice-aggregate-write-all Inv-loop μ-loop
+slice-aggregate-write-all c = search needs
+
+write-all-requires-2 : tie.Need-write-all-requires-2 Inv-loop μ-loop
+write-all-requires-2 c κs = search needs
+
 returns : tie.Need-returns Inv-loop μ-loop
 returns c = search needs
 
@@ -43,6 +49,7 @@ words-spec =
     (tie.spec
     Inv-loop
     μ-loop
+    write-all-requires
     loop-holds
     mul-word
     shared-slice-read-word
@@ -50,4 +57,6 @@ words-spec =
     add-i
     loop-less
     loop-again
+    slice-aggregate-write-all
+    write-all-requires-2
     returns)

@@ -2,26 +2,19 @@ use Rattle.words.specs.Bytes.{leBytes}
 use borrow.Author.Needs.{needs}
 use Rattle.words.proofs.bytes.bytes_of_u32.Statement.{statement}
 use Rattle.words.proofs.bytes.bytes_of_u32.Tie as tie
-use Rattle.words.proofs.bytes.bytes_of_u32.Reads as reads
-use Rattle.words.proofs.bytes.bytes_of_u32.Lts as lts
 
--- src/bytes.rt:23:9
 cast-t6 : tie.Need-cast-t6
 cast-t6 c = search needs
 
--- src/bytes.rt:24:9
 cast-t8 : tie.Need-cast-t8
 cast-t8 c = search needs
 
--- src/bytes.rt:25:9
 cast-t10 : tie.Need-cast-t10
 cast-t10 c = search needs
 
--- src/bytes.rt:26:9
 cast-t12 : tie.Need-cast-t12
 cast-t12 c = search needs
 
--- src/bytes.rt:16:1
 returns : tie.Need-returns
 unfolding leBytes
 returns c = search needs

@@ -2,42 +2,31 @@ use Rattle.words.specs.Bytes.{leBytes}
 use borrow.Author.Needs.{needs}
 use Rattle.words.proofs.bytes.bytes_of_u64.Statement.{statement}
 use Rattle.words.proofs.bytes.bytes_of_u64.Tie as tie
-use Rattle.words.proofs.bytes.bytes_of_u64.Reads as reads
-use Rattle.words.proofs.bytes.bytes_of_u64.Lts as lts
 
--- src/bytes.rt:42:9
 cast-t10 : tie.Need-cast-t10
 cast-t10 c = search needs
 
--- src/bytes.rt:43:9
 cast-t12 : tie.Need-cast-t12
 cast-t12 c = search needs
 
--- src/bytes.rt:44:9
 cast-t14 : tie.Need-cast-t14
 cast-t14 c = search needs
 
--- src/bytes.rt:45:9
 cast-t16 : tie.Need-cast-t16
 cast-t16 c = search needs
 
--- src/bytes.rt:46:9
 cast-t18 : tie.Need-cast-t18
 cast-t18 c = search needs
 
--- src/bytes.rt:47:9
 cast-t20 : tie.Need-cast-t20
 cast-t20 c = search needs
 
--- src/bytes.rt:48:9
 cast-t22 : tie.Need-cast-t22
 cast-t22 c = search needs
 
--- src/bytes.rt:49:9
 cast-t24 : tie.Need-cast-t24
 cast-t24 c = search needs
 
--- src/bytes.rt:31:1
 returns : tie.Need-returns
 unfolding leBytes
 returns c = search needs

@@ -4,34 +4,25 @@ use lib.Seq.{set-out}
 use borrow.Author.Needs.{needs}
 use Rattle.words.proofs.bytes.put_byte.Statement.{statement}
 use Rattle.words.proofs.bytes.put_byte.Tie as tie
-use Rattle.words.proofs.bytes.put_byte.Reads as reads
-use Rattle.words.proofs.bytes.put_byte.Lts as lts
 
--- src/bytes.rt:89:16
 sub-if2 : tie.Need-sub-if2
 sub-if2 c = search needs
 
--- src/bytes.rt:90:17
 add-out : tie.Need-add-out
 add-out c = search needs
 
--- src/bytes.rt:90:13
 slice-write-out : tie.Need-slice-write-out
 slice-write-out c = search needs
 
--- src/bytes.rt:85:1
 same-length : tie.Need-same-length
 same-length c = search needs
 
--- src/bytes.rt:85:1
 returns : tie.Need-returns
 returns c = search needs
 
--- src/bytes.rt:85:1
 returns-2 : tie.Need-returns-2
 returns-2 c = sym (set-out _ _ _ (omega arith))
 
--- src/bytes.rt:85:1
 returns-3 : tie.Need-returns-3
 returns-3 c = sym (set-out _ _ _ (omega arith))
 

@@ -1,79 +1,67 @@
-use Rattle.words.specs.Bytes.{leBytes}
-use Rattle.words.proofs.Numbers.{sets-4, length-leBytes}
+use mathlib.Core.Path.{_≡_, refl}
+use Prim.Native.Nat.{_≤_, _-_}
+use native.Mathlib.Omega.{arith}
+use native.Mathlib.Numerals.{add-one}
+use lib.ListN.{length, take}
+use lib.Seq.{sets, take-length}
+use Rattle.words.proofs.Numbers.{sets-suc}
 use borrow.Author.Needs.{needs}
 use Rattle.words.proofs.bytes.put_u32.Statement.{statement}
 use Rattle.words.proofs.bytes.put_u32.Tie as tie
-use Rattle.words.proofs.bytes.put_u32.Reads as reads
-use Rattle.words.proofs.bytes.put_u32.Lts as lts
-use Rattle.words.proofs.bytes.bytes_of_u32.Reads as bytes-of-u32-reads
-use Rattle.words.proofs.bytes.put_byte.Reads as put-byte-reads
 
--- src/bytes.rt:99:13
-bytes-of-u32-requires : tie.Need-bytes-of-u32-requires
+abbrev Inv-loop : tie.InvT-loop
+Inv-loop out₀ at x b i₀ out i = (i ≤ 4) × (length out ≡ length out₀) × (out ≡ sets out₀ at (take i b))
+
+abbrev μ-loop : tie.MeasureT-loop
+μ-loop out₀ at x b i₀ out i = 4 - i
+
+bytes-of-u32-requires : tie.Need-bytes-of-u32-requires Inv-loop μ-loop
 bytes-of-u32-requires c κs = search needs
 
--- src/bytes.rt:100:26
-array-read-put-byte : tie.Need-array-read-put-byte
+loop-holds : tie.Need-loop-holds Inv-loop μ-loop
+loop-holds c = (search needs, search needs, refl)
+
+array-read-put-byte : tie.Need-array-read-put-byte Inv-loop μ-loop
 array-read-put-byte c = search needs
 
--- src/bytes.rt:100:5
-put-byte-requires : tie.Need-put-byte-requires
+put-byte-requires : tie.Need-put-byte-requires Inv-loop μ-loop
 put-byte-requires c κs = search needs
 
--- src/bytes.rt:101:26
-array-read-put-byte-2 : tie.Need-array-read-put-byte-2
-array-read-put-byte-2 c = search needs
+add-i : tie.Need-add-i Inv-loop μ-loop
+add-i c = search needs
 
--- src/bytes.rt:101:5
-put-byte-requires-2 : tie.Need-put-byte-requires-2
-put-byte-requires-2 c κs = search needs
+loop-less : tie.Need-loop-less Inv-loop μ-loop
+loop-less c = search needs
 
--- src/bytes.rt:102:26
-array-read-put-byte-3 : tie.Need-array-read-put-byte-3
-array-read-put-byte-3 c = search needs
+loop-again : tie.Need-loop-again Inv-loop μ-loop
+loop-again c =
+    let l = c .before .before .before .before .before .loop in
+    let b = c .before .before .before .before .before .before .bytes-of-u32 .result in
+    let a = c .before .before .before .before .before .before .before .before .args in
+    (search needs, search needs, rw (add-one, c .before .before .put-byte .ensures, l .inv .2) (sets-suc (a .out .now) (a .at) b (l .i) (omega arith)))
 
--- src/bytes.rt:102:5
-put-byte-requires-3 : tie.Need-put-byte-requires-3
-put-byte-requires-3 c κs = search needs
-
--- src/bytes.rt:103:26
-array-read-put-byte-4 : tie.Need-array-read-put-byte-4
-array-read-put-byte-4 c = search needs
-
--- src/bytes.rt:103:5
-put-byte-requires-4 : tie.Need-put-byte-requires-4
-put-byte-requires-4 c κs = search needs
-
--- src/bytes.rt:96:1
-same-length : tie.Need-same-length
+same-length : tie.Need-same-length Inv-loop μ-loop
 same-length c = search needs
 
--- src/bytes.rt:96:1
-returns : tie.Need-returns
+returns : tie.Need-returns Inv-loop μ-loop
 returns c =
-    let d = c .before .before .before .before .before .before .before .before .before .before .before .before .before .before in
-    let start = d .before .before .before .before in
-    rw (
-      c .before .before .put-byte4 .ensures,
-      c .before .before .before .before .before .before .put-byte3 .ensures,
-      c .before .before .before .before .before .before .before .before .before .before .put-byte2 .ensures,
-      d .put-byte .ensures,
-      d .before .before .bytes-of-u32 .ensures,
-    )
-    (sets-4 (start .args .out .now) (leBytes 4 (start .args .x)) (start .args .at) (length-leBytes 4 (start .args .x)))
+    let l = c .before .loop in
+    let b = c .before .before .bytes-of-u32 .result in
+    let e : l .i ≡ length b = omega arith in
+    rw (l .inv .2, e, take-length b, c .before .before .bytes-of-u32 .ensures)
 
 pub put-u32-spec : {M : Type 1} → statement M
 put-u32-spec =
     tie.close
     (tie.spec
+    Inv-loop
+    μ-loop
     bytes-of-u32-requires
+    loop-holds
     array-read-put-byte
     put-byte-requires
-    array-read-put-byte-2
-    put-byte-requires-2
-    array-read-put-byte-3
-    put-byte-requires-3
-    array-read-put-byte-4
-    put-byte-requires-4
+    add-i
+    loop-less
+    loop-again
     same-length
     returns)

@@ -4,67 +4,49 @@ use Rattle.words.specs.Bytes.{leNumber}
 use borrow.Author.Needs.{needs}
 use Rattle.words.proofs.bytes.u64_of_bytes.Statement.{statement}
 use Rattle.words.proofs.bytes.u64_of_bytes.Tie as tie
-use Rattle.words.proofs.bytes.u64_of_bytes.Reads as reads
-use Rattle.words.proofs.bytes.u64_of_bytes.Lts as lts
-use Rattle.words.proofs.bytes.u32_of_bytes.Reads as u32-of-bytes-reads
 
--- src/bytes.rt:71:29
 array-read-t7 : tie.Need-array-read-t7
 array-read-t7 c = search needs
 
--- src/bytes.rt:71:35
 array-read-t10 : tie.Need-array-read-t10
 array-read-t10 c = search needs
 
--- src/bytes.rt:71:41
 array-read-t13 : tie.Need-array-read-t13
 array-read-t13 c = search needs
 
--- src/bytes.rt:71:47
 array-read-t16 : tie.Need-array-read-t16
 array-read-t16 c = search needs
 
--- src/bytes.rt:71:9
 u32-of-bytes-requires : tie.Need-u32-of-bytes-requires
 u32-of-bytes-requires c κs = search needs
 
--- src/bytes.rt:72:30
 array-read-t7-2 : tie.Need-array-read-t7-2
 array-read-t7-2 c = search needs
 
--- src/bytes.rt:72:36
 array-read-t10-2 : tie.Need-array-read-t10-2
 array-read-t10-2 c = search needs
 
--- src/bytes.rt:72:42
 array-read-t16-2 : tie.Need-array-read-t16-2
 array-read-t16-2 c = search needs
 
--- src/bytes.rt:72:48
 array-read-t13-2 : tie.Need-array-read-t13-2
 array-read-t13-2 c = search needs
 
--- src/bytes.rt:72:9
 u32-of-bytes-requires-2 : tie.Need-u32-of-bytes-requires-2
 u32-of-bytes-requires-2 c κs = search needs
 
--- src/bytes.rt:73:5
 cast-result : tie.Need-cast-result
 cast-result c = search needs
 
--- src/bytes.rt:73:35
 cast-result-2 : tie.Need-cast-result-2
 cast-result-2 c = search needs
 
--- src/bytes.rt:73:18
 mul-result : tie.Need-mul-result
 mul-result c = search needs
 
--- src/bytes.rt:73:5
 add-result : tie.Need-add-result
 add-result c = search needs
 
--- src/bytes.rt:68:1
 returns : tie.Need-returns
 unfolding num leNumber
 returns c = omega (arith, num-all 8 (c .before .before .args .t1) (omega arith), c .u32-of-bytes2 .ensures, c .before .u32-of-bytes .ensures)
