@@ -3,9 +3,9 @@ ghost use mathlib.Core.Path.{_≡_};
 ghost use lib.Seq.{sets};
 ghost use Rattle.words.specs.Words.{addWords};
 ghost use Rattle.chacha.specs.Chacha.{chachaBlock, serialize};
+use crate::room::put_u32;
 use crate::rounds::inner_block;
 use std::num::wrapping_add_u32;
-use words::put_u32;
 
 // t[i] += s[i] for each word.
 fn add_words(mut t: [u32; 16], s: [u32; 16]) -> [u32; 16]

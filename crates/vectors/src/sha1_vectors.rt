@@ -1,74 +1,34 @@
-// SHA-1's published messages through the compression, with the padding of FIPS 180-4, section 5.1.1, made here.
-ghost use Prim.Native.Nat.{_<_};
+// SHA-1's published messages through the compression. The padding of FIPS 180-4, section 5.1.1, is made here by hand: the message
+// big endian, one bit, zeros, and the length in bits as the last word.
 use crate::print;
-
-// A byte of the padded message, but for its length: the message, then 0x80, then zeros.
-fn padded(m: &[u8], i: usize) -> u8 {
-    if i < m.len() {
-        m[i]
-    } else if i == m.len() {
-        0x80
-    } else {
-        0
-    }
-}
-
-// The word whose first byte is byte i, big endian.
-fn word(m: &[u8], i: usize) -> u32
-    requires { ⌜ i < 1000 ⌝ }
-{
-    let little = words::u32_of_bytes([
-        padded(m, i),
-        padded(m, i + 1),
-        padded(m, i + 2),
-        padded(m, i + 3),
-    ]);
-    words::swap_bytes(little)
-}
-
-// The block whose first byte is byte i.
-fn block(m: &[u8], i: usize) -> [u32; 16]
-    requires { ⌜ i < 900 ⌝ }
-{
-    [
-        word(m, i),
-        word(m, i + 4),
-        word(m, i + 8),
-        word(m, i + 12),
-        word(m, i + 16),
-        word(m, i + 20),
-        word(m, i + 24),
-        word(m, i + 28),
-        word(m, i + 32),
-        word(m, i + 36),
-        word(m, i + 40),
-        word(m, i + 44),
-        word(m, i + 48),
-        word(m, i + 52),
-        word(m, i + 56),
-        word(m, i + 60),
-    ]
-}
-
-// The last block: its last word is the message's length in bits.
-fn last(m: &[u8], i: usize, bits: u32) -> [u32; 16]
-    requires { ⌜ i < 900 ⌝ }
-{
-    let mut b = block(m, i);
-    b[15] = bits;
-    b
-}
 
 pub fn run() {
     let start = sha1::initial_hash();
     print::words(b"FIPS 180-4 5.3.1 initial hash:", &start);
-    let none = sha1::compress(start, last(b"", 0, 0));
-    print::words(b"SHA-1 of no byte:", &none);
-    let abc = sha1::compress(start, last(b"abc", 0, 24));
-    print::words(b"SHA-1 of abc:", &abc);
-    let long = b"abcdbcdecdefdefgefghfghighijhijkijkljklmklmnlmnomnopnopq";
-    let first = sha1::compress(start, block(long, 0));
+    let none = [0x8000_0000, 0, 0, 0, 0, 0, 0, 0, 0, 0, 0, 0, 0, 0, 0, 0];
+    print::words(b"SHA-1 of no byte:", &sha1::compress(start, none));
+    let abc = [0x6162_6380, 0, 0, 0, 0, 0, 0, 0, 0, 0, 0, 0, 0, 0, 0, 24];
+    print::words(b"SHA-1 of abc:", &sha1::compress(start, abc));
+    let long = [
+        0x6162_6364,
+        0x6263_6465,
+        0x6364_6566,
+        0x6465_6667,
+        0x6566_6768,
+        0x6667_6869,
+        0x6768_696a,
+        0x6869_6a6b,
+        0x696a_6b6c,
+        0x6a6b_6c6d,
+        0x6b6c_6d6e,
+        0x6c6d_6e6f,
+        0x6d6e_6f70,
+        0x6e6f_7071,
+        0x8000_0000,
+        0,
+    ];
+    let first = sha1::compress(start, long);
     print::words(b"SHA-1 of abcdbcde..nopq after one block:", &first);
-    let second = sha1::compress(first, last(long, 64, 448));
-    print::words(b"SHA-1 of abcdbcde..nopq:", &second);
+    let rest = [0, 0, 0, 0, 0, 0, 0, 0, 0, 0, 0, 0, 0, 0, 0, 448];
+    print::words(b"SHA-1 of abcdbcde..nopq:", &sha1::compress(first, rest));
 }

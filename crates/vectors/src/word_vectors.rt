@@ -29,22 +29,7 @@ fn layout() {
     );
 }
 
-// Four bytes laid over a room of six from a place on: what would pass the end is dropped, the rest of the room stays.
-fn laid(label: &[u8], at: usize) {
-    let mut room = [0xeeu8; 6];
-    words::put_u32(&mut room, at, 0x0123_4567);
-    print::bytes(label, &room);
-}
-
 pub fn run() {
     rotations();
     layout();
-    laid(b"words 1234567 laid at 0 of 6: ", 0);
-    laid(b"words 1234567 laid at 2 of 6: ", 2);
-    laid(b"words 1234567 laid at 4 of 6: ", 4);
-    laid(b"words 1234567 laid at 6 of 6: ", 6);
-    laid(
-        b"words 1234567 laid at the last place there is: ",
-        0xffff_ffff_ffff_ffff,
-    );
 }

@@ -1,3 +1,4 @@
 pub mod Rotation
 pub mod Numbers
+pub mod Rooms
 pub mod Sums

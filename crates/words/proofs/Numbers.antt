@@ -1,31 +1,18 @@
--- Laws of numbers laid out as bytes: lengths, bounds, the way there and back, and bytes laid over a room. Assumes nothing.
+-- Laws of numbers laid out as bytes: lengths, the way there and back, runs of bytes and of words. Assumes nothing.
 use mathlib.Core.Path.{_≡_, refl, sym, ap, _∙_}
 use mathlib.Core.List.{List, [], _∷_, _++_, append-assoc, append-nil}
 use Prim.Native.Nat.{ℕ, zero, suc, _+_, _-_, _*_, _/_, _%_, _^_, _<_, _≤_}
 use native.Mathlib.Nat.{add-zero, mul-assoc}
 use native.Mathlib.Omega.{arith}
-use lib.ListN.{length, getD, set, take, drop, length-append, take-append-drop}
+use lib.ListN.{length, getD, take, drop, length-append}
 use lib.Pow.{pow-add, shr-lt}
-use lib.Seq.{sets, take-suc, drop-cons, drop-length, length-take-le, take-set-lt, drop-set-lt}
+use lib.Seq.{take-suc, drop-cons, drop-length}
 use Rattle.words.specs.Bytes.{leBytes, leNumber, swapped, wordsBytes}
 
 pub length-leBytes : (n x : ℕ) → length (leBytes n x) ≡ n
 unfolding leBytes
 length-leBytes zero x = refl
 length-leBytes (suc n) x = ap suc (length-leBytes n (x / 2 ^ 8))
-
--- bytes laid over a room one after another are laid over it as one list
-pub sets-append : (l : List ℕ) (i : ℕ) (a b : List ℕ) → sets (sets l i a) (i + length a) b ≡ sets l i (a ++ b)
-sets-append l i [] b = ap (λ (k : ℕ). sets l k b) (add-zero i)
-sets-append l i (x ∷ a) b =
-    let e : i + suc (length a) ≡ suc i + length a = omega arith in
-    rw e (sets-append (set l i x) (suc i) a b)
-
--- one byte more
-pub sets-suc : (l : List ℕ) (at : ℕ) (b : List ℕ) (i : ℕ) → i < length b → set (sets l at (take i b)) (at + i) (getD b i 0) ≡ sets l at (take (suc i) b)
-sets-suc l at b i h =
-    let e : at + i ≡ at + length (take i b) = omega (arith, length-take-le i b (omega arith)) in
-    rw (e, take-suc b i 0 h) (sets-append l at (take i b) (getD b i 0 ∷ []))
 
 pub length-wordsBytes : (ws : List ℕ) → length (wordsBytes ws) ≡ 4 * length ws
 unfolding wordsBytes
@@ -89,16 +76,3 @@ leNumber-append (x ∷ a) b =
     let e : 8 * suc (length a) ≡ 8 + 8 * length a = omega arith in
     let p : 2 ^ (8 + 8 * length a) * leNumber b ≡ 256 * (2 ^ (8 * length a) * leNumber b) = ap (λ (k : ℕ). k * leNumber b) (pow-add 2 8 (8 * length a)) ∙ mul-assoc 256 (2 ^ (8 * length a)) (leNumber b) in
     rw (e, p) (omega (arith, leNumber-append a b))
-
--- the bytes of one more word, laid over a room after those of the words before it
-pub sets-word : (l ws : List ℕ) (i : ℕ) → i < length ws
-    → sets (sets l 0 (wordsBytes (take i ws))) (i * 4) (leBytes 4 (getD ws i 0)) ≡ sets l 0 (wordsBytes (take (suc i) ws))
-sets-word l ws i h =
-    let e : i * 4 ≡ 0 + length (wordsBytes (take i ws)) = omega (arith, length-wordsBytes (take i ws), length-take-le i ws (omega arith)) in
-    rw (e, wordsBytes-suc ws i h) (sets-append l 0 (wordsBytes (take i ws)) (leBytes 4 (getD ws i 0)))
-
--- bytes laid over the front of a room, where they fit into it, are laid over the room
-pub sets-front : (n : ℕ) (l : List ℕ) (i : ℕ) (vs : List ℕ) → i + length vs ≤ n → sets (take n l) i vs ++ drop n l ≡ sets l i vs
-sets-front n l i [] h = take-append-drop n l
-sets-front n l i (v ∷ vs) h =
-    rw (← take-set-lt n l i v (omega arith), ← drop-set-lt n l i v (omega arith)) (sets-front n (set l i v) (suc i) vs (omega arith))

@@ -12,7 +12,6 @@ pub mod turn;
 pub use bytes::bytes_of_u16;
 pub use bytes::bytes_of_u32;
 pub use bytes::bytes_of_u64;
-pub use bytes::put_u32;
 pub use bytes::swap_bytes;
 pub use bytes::u16_of_bytes;
 pub use bytes::u32_of_bytes;

@@ -4,7 +4,8 @@ use native.Mathlib.Omega.{arith}
 use lib.ListN.{length, take}
 use lib.Seq.{sets, length-take-le}
 use Rattle.words.specs.Bytes.{wordsBytes}
-use Rattle.words.proofs.Numbers.{length-wordsBytes, sets-front}
+use Rattle.words.proofs.Numbers.{length-wordsBytes}
+use Rattle.words.proofs.Rooms.{sets-front}
 use borrow.Author.Needs.{needs}
 use Rattle.chacha.proofs.blocks.put_block.Statement.{statement}
 use Rattle.chacha.proofs.blocks.put_block.Tie as tie

@@ -5,7 +5,7 @@ use native.Mathlib.Omega.{arith}
 use native.Mathlib.Numerals.{add-one}
 use lib.Seq.{sets, take-length}
 use Rattle.words.specs.Bytes.{wordsBytes}
-use Rattle.words.proofs.Numbers.{sets-word}
+use Rattle.words.proofs.Rooms.{sets-word}
 use borrow.Author.Needs.{needs}
 use Rattle.chacha.proofs.blocks.put_words.Statement.{statement}
 use Rattle.chacha.proofs.blocks.put_words.Tie as tie
