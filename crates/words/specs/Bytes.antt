@@ -20,3 +20,11 @@ swapped x = leNumber (reverse (leBytes 4 x))
 unfoldable pub wordsBytes : List ℕ → List ℕ
 wordsBytes [] = []
 wordsBytes (w ∷ ws) = leBytes 4 w ++ wordsBytes ws
+
+-- words out of bytes, four to a word; bytes that are missing at the end count as 0
+unfoldable pub bytesWords : List ℕ → List ℕ
+bytesWords [] = []
+bytesWords (a ∷ []) = leNumber (a ∷ []) ∷ []
+bytesWords (a ∷ b ∷ []) = leNumber (a ∷ b ∷ []) ∷ []
+bytesWords (a ∷ b ∷ c ∷ []) = leNumber (a ∷ b ∷ c ∷ []) ∷ []
+bytesWords (a ∷ b ∷ c ∷ d ∷ bs) = leNumber (a ∷ b ∷ c ∷ d ∷ []) ∷ bytesWords bs

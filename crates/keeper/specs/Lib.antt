@@ -1,0 +1,6 @@
+pub mod FastPool
+pub mod Generator
+pub mod Record
+pub mod Calls
+pub mod Narrative
+pub mod Obey

@@ -1,0 +1,141 @@
+-- The calls, told step by step in the paper's order, refusals first.
+use mathlib.Core.Bool.{Bool, true, false, _&&_, not}
+use mathlib.Core.List.{List, [], _∷_, _++_}
+use Prim.Native.Nat.{ℕ, _+_, _*_, min, max}
+use lib.Dec.{ltb, leb, eqb}
+use lib.ListN.{length}
+use Rattle.words.specs.Bytes.{wordsBytes}
+use Rattle.ledger.specs.Choice.{pick}
+use Rattle.ledger.specs.Numbers.{done, wouldBlock, unseeded, tooLong, noSuchDevice, creditTooHigh, repeated, outOfRange}
+use Rattle.ledger.specs.Shapes.{inputShape, blockingShape}
+use Rattle.ledger.specs.Credits.{credited, taken, debited, reseedTakes}
+use Rattle.ledger.specs.Clocks.{nextTimer, eventBits}
+use Rattle.ledger.specs.Marks.{inputCount, blockingCount, lastValue, withCounts, seededAt, valued, tallied, spilled, stays, reseedDue, blocks}
+use Rattle.pool.specs.Mixing.{Pool, mix}
+use Rattle.pool.specs.Extracting.{Extract, extract}
+use Rattle.keeper.specs.FastPool.{stirred}
+use Rattle.keeper.specs.Generator.{ontoKey, Stream, generated}
+use Rattle.keeper.specs.Record.{inputPool, blockingPool, deviceTimer, withLedger, withInput, withBlocking, withFast, withGenerator, withTimer, fine, Outcome, refused}
+use Rattle.keeper.specs.Calls.{Call, deviceEvent, interrupted, written, seededWith, generatorRead, blockingReadOf, eventBytes}
+use Rattle.keeper.specs.declared.Keeper.{Keeper}
+use Rattle.keeper.specs.declared.Answer.{Answer}
+
+-- a keeper, and the compressions run so far
+abbrev pub Run : Type 0
+Run = Keeper × ℕ
+
+abbrev pub finished : Run → Outcome
+finished w = record { keeper = w .0; answer = record { number = done; delivered = 0; blocks = 0; compressions = w .1 }; bytes = [] }
+
+-- ---- steps that several calls share
+abbrev pub mixInput : List ℕ → Keeper → Keeper
+mixInput bs k = withInput (mix inputShape (inputPool k) bs) k
+
+-- the counts become i and b
+abbrev pub recount : ℕ → ℕ → Keeper → Keeper
+recount i b k = withLedger (withCounts i b (k .ledger)) k
+
+-- t bytes taken from the input pool: the count falls by 64 for each
+abbrev pub debitInput : ℕ → Keeper → Keeper
+debitInput t k = recount (debited t (inputCount (k .ledger))) (blockingCount (k .ledger)) k
+
+-- t bytes extracted go onto the key; the seeding clock becomes `now`; the keeper is seeded for good
+abbrev pub rekey : ℕ → Extract → Keeper → Keeper
+rekey now e k = withLedger (seededAt now ((withInput (e .pool) k) .ledger)) (withGenerator (ontoKey (e .bytes) (k .generator)) (withInput (e .pool) k))
+
+-- reseed: debit the input pool, 32 wanted, least 16; if none is taken, nothing changes
+unfoldable pub reseed : ℕ → Keeper → Run
+reseed now k =
+    let t = reseedTakes (inputCount (k .ledger)) in
+    let e = extract inputShape t (inputPool k) in
+    pick (eqb t 0) (k, 0) (rekey now e (debitInput t k), e .runs)
+
+-- credit n bits to the input pool; after n > 0, an unseeded keeper with a count of 1,024 or more reseeds
+unfoldable pub creditInput : ℕ → ℕ → Keeper → Run
+creditInput now n k =
+    let c = credited (inputShape .size) n (inputCount (k .ledger)) in
+    let k₁ = recount c (blockingCount (k .ledger)) k in
+    pick (eqb n 0) (k, 0) (pick (not (k .ledger .seeded) && leb 1024 c) (reseed now k₁) (k₁, 0))
+
+-- ---- device event
+unfoldable pub eventCall : ℕ → ℕ → ℕ → ℕ → Keeper → Outcome
+eventCall device now stamp value k =
+    let t = deviceTimer k device in
+    pick (ltb 15 device) (refused noSuchDevice k)
+    (pick (eqb device 0 && eqb value (lastValue (k .ledger))) (refused repeated k)
+    (finished (creditInput now (eventBits now t)
+    (withTimer device (nextTimer now t) (withLedger (valued device value ((mixInput (eventBytes stamp now value) k) .ledger)) (mixInput (eventBytes stamp now value) k))))))
+
+-- ---- interrupt
+unfoldable pub interruptCall : ℕ → ℕ → ℕ → ℕ → Keeper → Outcome
+interruptCall now number stamp address k =
+    let f = stirred now number stamp address (k .fast) in
+    let k₁ = withFast f k in
+    pick (stays now (k .ledger)) (finished (withLedger (tallied (k .ledger)) k₁, 0))
+    (finished (creditInput now 1 (withLedger (spilled now ((mixInput (wordsBytes f) k₁) .ledger)) (mixInput (wordsBytes f) k₁))))
+
+-- ---- write: mix all bytes; no credit
+unfoldable pub writeCall : List ℕ → Keeper → Outcome
+writeCall bs k = pick (ltb 4096 (length bs)) (refused tooLong k) (finished (mixInput bs k, 0))
+
+-- ---- seed: mix all bytes, then credit the named bits
+unfoldable pub seedCall : ℕ → List ℕ → ℕ → Keeper → Outcome
+seedCall now bs credit k =
+    pick (ltb 4096 (length bs)) (refused tooLong k)
+    (pick (ltb (8 * length bs) credit) (refused creditTooHigh k) (finished (creditInput now credit (mixInput bs k))))
+
+-- ---- generator read
+-- bytes are made and delivered, and the key is changed
+unfoldable pub generate : ℕ → Run → Outcome
+generate len w =
+    let s = generated len (w .0 .generator) in
+    record {
+      keeper = withGenerator (s .generator) (w .0);
+      answer = record { number = done; delivered = length (s .bytes); blocks = s .blocks; compressions = w .1 };
+      bytes = s .bytes;
+    }
+
+unfoldable pub readCall : ℕ → ℕ → Keeper → Outcome
+readCall now len k =
+    pick (ltb 4096 len) (refused tooLong k)
+    (pick (eqb len 0) (refused done k)
+    (pick (not (k .ledger .seeded)) (refused unseeded k) (generate len (pick (reseedDue now (k .ledger)) (reseed now k) (k, 0)))))
+
+-- ---- blocking read
+-- t bytes from the input pool are mixed into the blocking pool, and eight bits a byte credited there
+unfoldable pub transfer : ℕ → Keeper → Run
+transfer t k =
+    let e = extract inputShape t (inputPool k) in
+    let k₁ = withInput (e .pool) (debitInput t k) in
+    let k₂ = withBlocking (mix blockingShape (blockingPool k₁) (e .bytes)) k₁ in
+    (recount (inputCount (k₂ .ledger)) (credited (blockingShape .size) (8 * t) (blockingCount (k₂ .ledger))) k₂, e .runs)
+
+-- the blocking pool is debited for n, least 0; what was taken is extracted and delivered
+unfoldable pub deliver : ℕ → Run → Outcome
+deliver n w =
+    let l = w .0 .ledger in
+    let d = taken n 0 (blockingCount l) in
+    let e = extract blockingShape d (blockingPool (w .0)) in
+    record {
+      keeper = withBlocking (e .pool) (recount (inputCount l) (debited d (blockingCount l)) (w .0));
+      answer = record { number = done; delivered = length (e .bytes); blocks = 0; compressions = w .1 + e .runs };
+      bytes = e .bytes;
+    }
+
+unfoldable pub blockingCall : ℕ → Keeper → Outcome
+blockingCall n k =
+    let t = pick (ltb (blockingCount (k .ledger)) (64 * n)) (taken (min (max n 8) 128) 8 (inputCount (k .ledger))) 0 in
+    pick (ltb 4096 n) (refused tooLong k)
+    (pick (eqb n 0) (refused done k) (pick (blocks (k .ledger)) (refused wouldBlock k) (deliver n (transfer t k))))
+
+-- ---- every call on a made keeper tests 17 first
+unfoldable pub act : Keeper → Call → Outcome
+act k (deviceEvent device now stamp value) = eventCall device now stamp value k
+act k (interrupted now number stamp address) = interruptCall now number stamp address k
+act k (written bs) = writeCall bs k
+act k (seededWith now bs credit) = seedCall now bs credit k
+act k (generatorRead now len) = readCall now len k
+act k (blockingReadOf n) = blockingCall n k
+
+unfoldable pub told : Keeper → Call → Outcome
+told k c = pick (fine k) (act k c) (refused outOfRange k)

@@ -1,0 +1,38 @@
+-- Credits and debits, on a count in eighths of a bit.
+use mathlib.Core.Bool.{_&&_}
+use Prim.Native.Nat.{ℕ, zero, suc, _+_, _-_, _*_, _/_, min}
+use lib.Dec.{ltb, eqb}
+use Rattle.ledger.specs.Choice.{pick}
+
+-- each turn takes min(rest, S/2) of the rest ..
+abbrev pub turnTakes : ℕ → ℕ → ℕ
+turnTakes S rest = min rest (S / 2)
+
+-- .. and adds floor((S - count) × that × 3 / (4 S)) to the count
+abbrev pub turnAdds : ℕ → ℕ → ℕ → ℕ
+turnAdds S count rest = (S - count) * turnTakes S rest * 3 / (4 * S)
+
+-- turns go on while the rest is above 0 and the count is below S - 2. The first number bounds how many; proofs/Turns.antt shows
+-- that it never bites.
+unfoldable pub further : ℕ → ℕ → ℕ → ℕ → ℕ
+further S zero rest count = count
+further S (suc f) rest count =
+    let r = further S f (rest - turnTakes S rest) (count + turnAdds S count rest) in
+    pick (ltb 0 rest && ltb count (S - 2)) r count
+
+-- the count after crediting n bits to a pool of size S: n = 0 does nothing; otherwise the rest is 8 n, and at least one turn is made
+unfoldable pub credited : ℕ → ℕ → ℕ → ℕ
+credited S n count =
+    pick (eqb n 0) count (further S (8 * n) (8 * n - turnTakes S (8 * n)) (count + turnAdds S count (8 * n)))
+
+-- the bytes that a debit takes for k wanted with least m: min(k, floor(count / 64)), or 0 if that is below m
+unfoldable pub taken : ℕ → ℕ → ℕ → ℕ
+taken k m count = pick (ltb (min k (count / 64)) m) 0 (min k (count / 64))
+
+-- the count after t bytes were taken
+abbrev pub debited : ℕ → ℕ → ℕ
+debited t count = count - 64 * t
+
+-- a reseed debits for 32 with least 16
+abbrev pub reseedTakes : ℕ → ℕ
+reseedTakes count = taken 32 16 count

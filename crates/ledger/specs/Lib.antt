@@ -1,0 +1,11 @@
+pub mod Choice
+pub mod Numbers
+pub mod Shapes
+pub mod Places
+pub mod Credits
+pub mod Clocks
+pub mod Marks
+pub mod Range
+pub mod PublicCalls
+pub mod Plans
+pub mod Machine

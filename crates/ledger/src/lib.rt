@@ -1,0 +1,58 @@
+// The public half of the keeper: all that decides, and nothing that is secret. Counts, positions, timers, marks and the public
+// fields of a call go in; the answer's number and a plan come out: which counts and marks result, and how many bytes go from
+// where to where. Code above this crate carries the plan out on the secrets. No crate that handles a secret lies below it.
+//
+// specs/ has the customer's rules, a file for each of the paper's sections: Numbers, Shapes, Places, Credits, Clocks, Range; then
+// PublicCalls and Plans, by which a call is decided, and Machine, which is the whole keeper as far as it can be seen.
+// proofs/ has what follows from these alone: crediting, debiting, "in range stays in range", blocking, the marked cases.
+
+// Where a pool's next byte goes: its position and its rotation.
+#[repr(C)]
+pub struct Spot {
+    pub at: u32,
+    pub turn: u32,
+}
+
+// The public half of the record. Counts are in eighths of a bit.
+#[repr(C)]
+pub struct Ledger {
+    pub input_count: u32,
+    pub blocking_count: u32,
+    pub input_spot: Spot,
+    pub blocking_spot: Spot,
+    // device 0's last value
+    pub last_value: u32,
+    // interrupts since the last spill, and its clock
+    pub tally: u32,
+    pub last_spill: u32,
+    // seeded for good, and the clock of the last seeding
+    pub seeded: bool,
+    pub seeding_clock: u32,
+}
+
+// A device's timer: its last clock, and the first and second difference of its last event.
+pub struct Timer {
+    pub clock: u32,
+    pub d1: i64,
+    pub d2: i64,
+}
+
+// What a call will do.
+pub struct Plan {
+    // the number given back
+    pub number: u32,
+    // the ledger afterwards, but for the two spots, which follow from the bytes that are mixed
+    pub ledger: Ledger,
+    // the device's timer afterwards, and whether it is kept
+    pub timer: Timer,
+    pub keeps: bool,
+    // the fast pool takes in the call's numbers; the call's bytes are mixed into the input pool
+    pub stirs: bool,
+    pub feeds: bool,
+    // bytes taken from the input pool onto the key, and into the blocking pool
+    pub reseed: u32,
+    pub transfer: u32,
+    // bytes handed out, by the blocking pool and by the generator
+    pub deliver: u32,
+    pub stream: u32,
+}

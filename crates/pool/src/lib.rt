@@ -1,0 +1,4 @@
+// The two pools' words: mixing bytes in and extracting bytes, once over the shape. A pool never sees its count: what may be taken is
+// decided in `ledger`, and a pool hands over as many bytes as it is told.
+//
+// specs/Mixing.antt and specs/Extracting.antt have the paper's section on pools. The code comes on top of these definitions.
