@@ -1,0 +1,10 @@
+pub mod Same
+pub mod Refusals
+pub mod Counter
+pub mod Fast
+pub mod Shadow
+pub mod Blind
+pub mod StaysInRange
+pub mod Blocks
+pub mod Work
+pub mod KeyChange

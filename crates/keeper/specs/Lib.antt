@@ -4,3 +4,4 @@ pub mod Record
 pub mod Calls
 pub mod Narrative
 pub mod Obey
+pub mod Demands

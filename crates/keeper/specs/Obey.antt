@@ -16,29 +16,57 @@ use Rattle.keeper.specs.Calls.{Call, public, stirredBy, payload}
 use Rattle.keeper.specs.declared.Keeper.{Keeper}
 use Rattle.keeper.specs.declared.Answer.{Answer}
 
--- stir, feed, reseed, transfer, deliver, stream: each as far as the plan says
+-- the fast pool takes in the call's numbers, if the plan says so
+abbrev pub fastAfter : Call → Plan → Keeper → List ℕ
+fastAfter c p k = pick (p .stirs) (stirredBy c (k .fast)) (k .fast)
+
+-- the call's bytes are mixed into the input pool, if the plan says so
+abbrev pub inputFed : Call → Plan → Keeper → Pool
+inputFed c p k = mix inputShape (inputPool k) (pick (p .feeds) (payload c (fastAfter c p k)) [])
+
+-- so many bytes are extracted for a reseed; then so many for the blocking pool
+abbrev pub forReseed : Call → Plan → Keeper → Extract
+forReseed c p k = extract inputShape (p .reseed) (inputFed c p k)
+
+abbrev pub forTransfer : Call → Plan → Keeper → Extract
+forTransfer c p k = extract inputShape (p .transfer) ((forReseed c p k) .pool)
+
+-- those are mixed into the blocking pool, and so many extracted from it
+abbrev pub forDelivery : Call → Plan → Keeper → Extract
+forDelivery c p k = extract blockingShape (p .deliver) (mix blockingShape (blockingPool k) ((forTransfer c p k) .bytes))
+
+-- the bytes of a reseed go onto the key, and the generator makes so many bytes
+abbrev pub fromGenerator : Call → Plan → Keeper → Stream
+fromGenerator c p k = generated (p .stream) (ontoKey ((forReseed c p k) .bytes) (k .generator))
+
+-- the record afterwards
+abbrev pub obeyed : Call → Plan → Keeper → Keeper
+obeyed c p k =
+    record {
+      ledger = withSpots ((forTransfer c p k) .pool .spot) ((forDelivery c p k) .pool .spot) (p .ledger);
+      clocks = kept p (deviceOf (public c)) (p .timer .clock) (k .clocks);
+      firsts = kept p (deviceOf (public c)) (p .timer .d1) (k .firsts);
+      seconds = kept p (deviceOf (public c)) (p .timer .d2) (k .seconds);
+      input = (forTransfer c p k) .pool .words;
+      blocking = (forDelivery c p k) .pool .words;
+      fast = fastAfter c p k;
+      generator = (fromGenerator c p k) .generator;
+    }
+
+-- the bytes handed out, and the compressions that were run for them
+abbrev pub handedOut : Call → Plan → Keeper → List ℕ
+handedOut c p k = (forDelivery c p k) .bytes ++ (fromGenerator c p k) .bytes
+
+abbrev pub compressionsFor : Call → Plan → Keeper → ℕ
+compressionsFor c p k = (forReseed c p k) .runs + (forTransfer c p k) .runs + (forDelivery c p k) .runs
+
+-- a plan carried out
 unfoldable pub obey : Call → Plan → Keeper → Outcome
 obey c p k =
-    let f = pick (p .stirs) (stirredBy c (k .fast)) (k .fast) in
-    let i = mix inputShape (inputPool k) (pick (p .feeds) (payload c f) []) in
-    let r = extract inputShape (p .reseed) i in
-    let t = extract inputShape (p .transfer) (r .pool) in
-    let d = extract blockingShape (p .deliver) (mix blockingShape (blockingPool k) (t .bytes)) in
-    let s = generated (p .stream) (ontoKey (r .bytes) (k .generator)) in
     record {
-      keeper =
-          record {
-            ledger = withSpots (t .pool .spot) (d .pool .spot) (p .ledger);
-            clocks = kept p (deviceOf (public c)) (p .timer .clock) (k .clocks);
-            firsts = kept p (deviceOf (public c)) (p .timer .d1) (k .firsts);
-            seconds = kept p (deviceOf (public c)) (p .timer .d2) (k .seconds);
-            input = t .pool .words;
-            blocking = d .pool .words;
-            fast = f;
-            generator = s .generator;
-          };
-      answer = record { number = p .number; delivered = length (d .bytes ++ s .bytes); blocks = s .blocks; compressions = r .runs + t .runs + d .runs };
-      bytes = d .bytes ++ s .bytes;
+      keeper = obeyed c p k;
+      answer = record { number = p .number; delivered = length (handedOut c p k); blocks = (fromGenerator c p k) .blocks; compressions = compressionsFor c p k };
+      bytes = handedOut c p k;
     }
 
 -- decide, then obey

@@ -12,7 +12,7 @@ turnTakes S rest = min rest (S / 2)
 abbrev pub turnAdds : ℕ → ℕ → ℕ → ℕ
 turnAdds S count rest = (S - count) * turnTakes S rest * 3 / (4 * S)
 
--- turns go on while the rest is above 0 and the count is below S - 2. The first number bounds how many; proofs/Turns.antt shows
+-- turns go on while the rest is above 0 and the count is below S - 2. The first number bounds how many; proofs/Unrolled.antt shows
 -- that it never bites.
 unfoldable pub further : ℕ → ℕ → ℕ → ℕ → ℕ
 further S zero rest count = count

@@ -50,23 +50,21 @@ inputMoved n p l = extractedFrom inputShape (p .transfer) (extractedFrom inputSh
 unfoldable pub blockingMoved : Plan → Ledger → Spot
 blockingMoved p l = extractedFrom blockingShape (p .deliver) (moved blockingShape (p .transfer) (blockingSpot l))
 
+-- what is public after a plan is carried out
+abbrev pub viewUnder : PublicCall → Plan → View → View
+viewUnder c p v =
+    record {
+      ledger = withSpots (inputMoved (brings c) p (v .ledger)) (blockingMoved p (v .ledger)) (p .ledger);
+      clocks = kept p (deviceOf c) (p .timer .clock) (v .clocks);
+      firsts = kept p (deviceOf c) (p .timer .d1) (v .firsts);
+      seconds = kept p (deviceOf c) (p .timer .d2) (v .seconds);
+      fixed = v .fixed;
+    }
+
 -- what a call shows under a plan
 unfoldable pub planned : PublicCall → Plan → View → Shown
 planned c p v =
-    record {
-      view =
-          record {
-            ledger = withSpots (inputMoved (brings c) p (v .ledger)) (blockingMoved p (v .ledger)) (p .ledger);
-            clocks = kept p (deviceOf c) (p .timer .clock) (v .clocks);
-            firsts = kept p (deviceOf c) (p .timer .d1) (v .firsts);
-            seconds = kept p (deviceOf c) (p .timer .d2) (v .seconds);
-            fixed = v .fixed;
-          };
-      number = p .number;
-      delivered = p .deliver + p .stream;
-      blocks = blocksRun p;
-      compressions = compressionsRun p;
-    }
+    record { view = viewUnder c p v; number = p .number; delivered = p .deliver + p .stream; blocks = blocksRun p; compressions = compressionsRun p }
 
 -- the plan for a call at a view
 abbrev pub planAt : View → PublicCall → Plan

@@ -7,7 +7,7 @@ use native.Mathlib.Omega.{arith}
 use lib.ListN.{length, getD, take, drop, length-append}
 use lib.Pow.{pow-add, shr-lt}
 use lib.Seq.{take-suc, drop-cons, drop-length}
-use Rattle.words.specs.Bytes.{leBytes, leNumber, swapped, wordsBytes}
+use Rattle.words.specs.Bytes.{leBytes, leNumber, swapped, wordsBytes, bytesWords}
 
 pub length-leBytes : (n x : ℕ) → length (leBytes n x) ≡ n
 unfolding leBytes
@@ -76,3 +76,38 @@ leNumber-append (x ∷ a) b =
     let e : 8 * suc (length a) ≡ 8 + 8 * length a = omega arith in
     let p : 2 ^ (8 + 8 * length a) * leNumber b ≡ 256 * (2 ^ (8 * length a) * leNumber b) = ap (λ (k : ℕ). k * leNumber b) (pow-add 2 8 (8 * length a)) ∙ mul-assoc 256 (2 ^ (8 * length a)) (leNumber b) in
     rw (e, p) (omega (arith, leNumber-append a b))
+
+-- bytes make a word for each four of them, and one more for what is left over
+pub length-bytesWords : (bs : List ℕ) → 4 * length (bytesWords bs) ≤ length bs + 3
+unfolding bytesWords
+length-bytesWords [] = omega arith
+length-bytesWords (a ∷ []) = omega arith
+length-bytesWords (a ∷ b ∷ []) = omega arith
+length-bytesWords (a ∷ b ∷ c ∷ []) = omega arith
+length-bytesWords (a ∷ b ∷ c ∷ d ∷ bs) = omega (arith, length-bytesWords bs)
+
+-- no byte is left out
+bytesWords-reach : (bs : List ℕ) → length bs ≤ 4 * length (bytesWords bs)
+unfolding bytesWords
+bytesWords-reach [] = omega arith
+bytesWords-reach (a ∷ []) = omega arith
+bytesWords-reach (a ∷ b ∷ []) = omega arith
+bytesWords-reach (a ∷ b ∷ c ∷ []) = omega arith
+bytesWords-reach (a ∷ b ∷ c ∷ d ∷ bs) = omega (arith, bytesWords-reach bs)
+
+-- whole words: four bytes each
+pub length-bytesWords-whole : (bs : List ℕ) (n : ℕ) → length bs ≡ 4 * n → length (bytesWords bs) ≡ n
+length-bytesWords-whole bs n e = omega (arith, length-bytesWords bs, bytesWords-reach bs)
+
+-- words made of bytes are words of 32 bits
+pub bytesWords-lt : (bs : List ℕ) → ((i : ℕ) → getD bs i 0 < 2 ^ 8) → (j : ℕ) → getD (bytesWords bs) j 0 < 2 ^ 32
+unfolding bytesWords leNumber
+bytesWords-lt [] h j = omega arith
+bytesWords-lt (a ∷ []) h zero = omega (arith, h 0)
+bytesWords-lt (a ∷ []) h (suc j) = omega arith
+bytesWords-lt (a ∷ b ∷ []) h zero = omega (arith, h 0, h 1)
+bytesWords-lt (a ∷ b ∷ []) h (suc j) = omega arith
+bytesWords-lt (a ∷ b ∷ c ∷ []) h zero = omega (arith, h 0, h 1, h 2)
+bytesWords-lt (a ∷ b ∷ c ∷ []) h (suc j) = omega arith
+bytesWords-lt (a ∷ b ∷ c ∷ d ∷ bs) h zero = omega (arith, h 0, h 1, h 2, h 3)
+bytesWords-lt (a ∷ b ∷ c ∷ d ∷ bs) h (suc j) = bytesWords-lt bs (λ i. h (suc (suc (suc (suc i))))) j

@@ -29,3 +29,10 @@ module _ (f : ℕ → ℕ → ℕ) where
   part-all [] ys e = refl
   part-all (x ∷ xs) (y ∷ ys) e = ap (λ (l : List ℕ). f x y ∷ l) (part-all xs ys (omega arith))
   part-all (x ∷ xs) [] e = absurd (omega arith)
+
+  -- lists of one length, joined, have that length
+  pub length-zipWith : (xs ys : List ℕ) → length xs ≡ length ys → length (zipWith f xs ys) ≡ length ys
+  unfolding zipWith
+  length-zipWith [] ys e = e
+  length-zipWith (x ∷ xs) (y ∷ ys) e = ap suc (length-zipWith xs ys (omega arith))
+  length-zipWith (x ∷ xs) [] e = absurd (omega arith)

@@ -1,0 +1,47 @@
+-- Demand 1: a call answered with anything but 0 leaves the whole record and the output room as they were, hands out nothing and
+-- reports no work; and so does a refused making. Assumes nothing.
+use mathlib.Core.Path.{_≡_, refl}
+use mathlib.Core.List.{List, []}
+use Prim.Native.Nat.{ℕ}
+use Rattle.ledger.proofs.Picks.{pick-both}
+use Rattle.keeper.specs.Record.{Outcome, refused, roomAfter, made}
+use Rattle.keeper.specs.Calls.{Call, deviceEvent, interrupted, written, seededWith, generatorRead, blockingReadOf}
+use Rattle.keeper.specs.Narrative.{eventCall, interruptCall, writeCall, seedCall, generate, readCall, deliver, blockingCall, act, told}
+use Rattle.keeper.specs.declared.Keeper.{Keeper}
+
+-- an outcome that is a refusal wherever its number is not 0
+abbrev pub Refuses : Keeper → Outcome → Type 0
+Refuses k o = (o .answer .number ≡ 0 → ⊥) → o ≡ refused (o .answer .number) k
+
+-- a refusal is one
+itself : (k : Keeper) (n : ℕ) → Refuses k (refused n k)
+itself k n h = refl
+
+-- an outcome with the number 0 is none
+answered : (k : Keeper) (o : Outcome) → o .answer .number ≡ 0 → Refuses k o
+answered k o e h = absurd (h e)
+
+act-refuses : (k : Keeper) (c : Call) → Refuses k (act k c)
+unfolding act eventCall interruptCall writeCall seedCall readCall generate deliver blockingCall
+act-refuses k (deviceEvent device now stamp value) = pick-both (Refuses k) _ (itself k 4) (pick-both (Refuses k) _ (itself k 7) (answered k _ refl))
+act-refuses k (interrupted now number stamp address) = pick-both (Refuses k) _ (answered k _ refl) (answered k _ refl)
+act-refuses k (written bs) = pick-both (Refuses k) _ (itself k 3) (answered k _ refl)
+act-refuses k (seededWith now bs credit) = pick-both (Refuses k) _ (itself k 3) (pick-both (Refuses k) _ (itself k 5) (answered k _ refl))
+act-refuses k (generatorRead now len) =
+    pick-both (Refuses k) _ (itself k 3) (pick-both (Refuses k) _ (itself k 0) (pick-both (Refuses k) _ (itself k 2) (answered k _ refl)))
+act-refuses k (blockingReadOf n) =
+    pick-both (Refuses k) _ (itself k 3) (pick-both (Refuses k) _ (itself k 0) (pick-both (Refuses k) _ (itself k 1) (answered k _ refl)))
+
+-- DEMAND 1, for the six calls: record, answer and bytes
+pub demand-1 : (k : Keeper) (c : Call) → ((told k c) .answer .number ≡ 0 → ⊥) → told k c ≡ refused ((told k c) .answer .number) k
+unfolding told
+demand-1 k c = pick-both (Refuses k) _ (act-refuses k c) (itself k 17)
+
+-- .. and the output room, whatever it holds: no byte is handed out, so every byte of it stays
+pub room-stays : (n : ℕ) (k : Keeper) (room : List ℕ) → roomAfter room ((refused n k) .bytes) ≡ room
+room-stays n k room = refl
+
+-- a making that is not answered 0 leaves the record as it was
+pub making-refuses : (start : List ℕ) (k : Keeper) → ((made start k) .answer .number ≡ 0 → ⊥) → made start k ≡ refused 6 k
+unfolding made
+making-refuses start k = pick-both (λ (o : Outcome). (o .answer .number ≡ 0 → ⊥) → o ≡ refused 6 k) _ (λ h. absurd (h refl)) (λ h. refl)

@@ -1,0 +1,249 @@
+-- The two tellings are one: the paper's order, step by step, and the plan that the secrets obey give the same keeper, the same answer
+-- and the same bytes, for every keeper and every call. Assumes nothing.
+use mathlib.Core.Path.{_≡_, refl, sym, ap, ap₂, _∙_}
+use mathlib.Core.Bool.{Bool, true, false, _&&_, not}
+use mathlib.Core.List.{List, [], _∷_, _++_, append-nil}
+use Prim.Native.Nat.{ℕ, zero, suc, _+_, _-_, _*_, _/_, _%_, _^_, min, max}
+use native.Mathlib.Omega.{arith}
+use lib.Dec.{ltb, leb, eqb}
+use lib.ListN.{length, set, take}
+use borrow.Author.Tests.{ne-eqb}
+use Rattle.words.specs.Bytes.{bytesWords, wordsBytes}
+use Rattle.ledger.specs.Choice.{pick}
+use Rattle.ledger.specs.Shapes.{inputShape, blockingShape}
+use Rattle.ledger.specs.Credits.{credited, taken, debited, reseedTakes}
+use Rattle.ledger.specs.Clocks.{nextTimer, eventBits}
+use Rattle.ledger.specs.Marks.{inputCount, blockingCount, blockingSpot, withCounts, withSpots, valued, tallied, spilled, stays, reseedDue}
+use Rattle.ledger.specs.PublicCalls.{deviceOf}
+use Rattle.ledger.specs.Plans.{freshTimer, planOf, rest, firstSeeding, reseeding, feed, keeping, planEvent, planInterrupt, planWrite, planSeed, planRead, transferred, refilled, planBlockingRead, planCall, decide}
+use Rattle.ledger.specs.declared.Ledger.{Ledger}
+use Rattle.ledger.specs.declared.Timer.{Timer}
+use Rattle.ledger.specs.declared.Plan.{Plan}
+use Rattle.pool.specs.Mixing.{Pool, mix}
+use Rattle.pool.specs.Extracting.{Extract, extract, extractBlocks}
+use Rattle.keeper.specs.FastPool.{stirred}
+use Rattle.keeper.specs.Generator.{xorAt, ontoKey, Stream, stream, generated}
+use Rattle.keeper.specs.Record.{inputPool, blockingPool, deviceTimer, withLedger, withInput, withBlocking, withFast, withGenerator, withTimer, view, fine, Outcome, refused}
+use Rattle.keeper.specs.Calls.{Call, deviceEvent, interrupted, written, seededWith, generatorRead, blockingReadOf, public, eventBytes, stirredBy, payload}
+use Rattle.keeper.specs.Narrative.{Run, finished, mixInput, recount, debitInput, rekey, reseed, creditInput, eventCall, interruptCall, writeCall, seedCall, generate, readCall, transfer, deliver, blockingCall, act, told}
+use Rattle.keeper.specs.Obey.{obey, step}
+use Rattle.keeper.specs.declared.Keeper.{Keeper}
+use Rattle.keeper.specs.declared.Answer.{Answer}
+
+-- a plan to rest is a refusal
+pub rests : (n : ℕ) (c : Call) (k : Keeper) → refused n k ≡ obey c (rest n (k .ledger)) k
+unfolding obey pick mix extractBlocks generated stream xorAt bytesWords
+rests n c k = refl
+
+-- a choice between plans is a choice between outcomes
+obey-pick : (c : Call) (t : Bool) (p q : Plan) (k : Keeper) {x y : Outcome} → x ≡ obey c p k → y ≡ obey c q k → pick t x y ≡ obey c (pick t p q) k
+unfolding pick
+obey-pick c true p q k e f = e
+obey-pick c false p q k e f = f
+
+-- ---- mixed, credited, perhaps reseeded
+-- from the keeper k, its input pool at a count of cc, of which t bytes go onto the key
+form : ℕ → Keeper → ℕ → ℕ → Outcome
+form now k cc t =
+    let e = extract inputShape t (inputPool k) in
+    record {
+      keeper =
+          withLedger (withSpots (e .pool .spot) (blockingSpot (k .ledger)) (reseeding now cc t (k .ledger)))
+          (withGenerator (ontoKey (e .bytes) (k .generator)) (withInput (e .pool) k));
+      answer = record { number = 0; delivered = 0; blocks = 0; compressions = e .runs };
+      bytes = [];
+    }
+
+-- at a count of cc with nothing taken
+unmoved : (now : ℕ) (k : Keeper) (cc : ℕ) → finished (recount cc (blockingCount (k .ledger)) k, 0) ≡ form now k cc 0
+unfolding form pick extractBlocks xorAt bytesWords
+unmoved now k cc =
+    let e : cc ≡ cc - 64 * 0 = omega arith in
+    ap (λ (n : ℕ). finished (recount n (blockingCount (k .ledger)) k, 0)) e
+
+-- a reseed of t bytes from a count of cc, in the paper's order
+reseeded : (now : ℕ) (k : Keeper) (cc t : ℕ)
+    → let k₁ = recount cc (blockingCount (k .ledger)) k in
+    let e = extract inputShape t (inputPool k₁) in
+    finished (pick (eqb t 0) (k₁, 0) (rekey now e (debitInput t k₁), e .runs)) ≡ form now k cc t
+unfolding pick
+reseeded now k cc zero = unmoved now k cc
+reseeded now k cc (suc n) = rw (ne-eqb (suc n) 0 (λ e. omega arith)) (unfold form in rw (ne-eqb (suc n) 0 (λ e. omega arith)))
+
+-- the two ways to tell whether a reseed comes
+credits : (now : ℕ) (k : Keeper) (a s l : Bool) (cc t : ℕ) → (a ≡ true → cc ≡ inputCount (k .ledger))
+    → let k₁ = recount cc (blockingCount (k .ledger)) k in
+    let e = extract inputShape t (inputPool k₁) in
+    finished (pick a (k, 0) (pick (s && l) (pick (eqb t 0) (k₁, 0) (rekey now e (debitInput t k₁), e .runs)) (k₁, 0)))
+    ≡ form now k cc (pick (not a && (s && l)) t 0)
+unfolding pick
+credits now k true s l cc t h = ap (λ (n : ℕ). finished (recount n (blockingCount (k .ledger)) k, 0)) (sym (h refl)) ∙ unmoved now k cc
+credits now k false true true cc t h = reseeded now k cc t
+credits now k false true false cc t h = unmoved now k cc
+credits now k false false l cc t h = unmoved now k cc
+
+credited-none : (S n count : ℕ) → eqb n 0 ≡ true → credited S n count ≡ count
+unfolding credited pick
+credited-none S n count e = rw e
+
+-- the keeper after a call's bytes are mixed in and its marks l, its timer and its fast pool kept
+base : Bool → Bool → Timer → Ledger → Call → Keeper → Keeper
+base keeps stirs t l c k =
+    let f = pick stirs (stirredBy c (k .fast)) (k .fast) in
+    let i = mix inputShape (inputPool k) (payload c f) in
+    record {
+      ledger = withSpots (i .spot) (blockingSpot (k .ledger)) l;
+      clocks = pick keeps (set (k .clocks) (deviceOf (public c)) (t .clock)) (k .clocks);
+      firsts = pick keeps (set (k .firsts) (deviceOf (public c)) (t .d1)) (k .firsts);
+      seconds = pick keeps (set (k .seconds) (deviceOf (public c)) (t .d2)) (k .seconds);
+      input = i .words;
+      blocking = k .blocking;
+      fast = f;
+      generator = k .generator;
+    }
+
+-- a plan that feeds
+feeding : ℕ → Bool → Bool → Timer → Ledger → ℕ → ℕ → Plan
+feeding now keeps stirs tm l cc t =
+    record { number = 0; ledger = reseeding now cc t l; timer = tm; keeps = keeps; stirs = stirs; feeds = true; reseed = t; transfer = 0; deliver = 0; stream = 0 }
+
+formed : (now : ℕ) (keeps stirs : Bool) (tm : Timer) (l : Ledger) (cc t : ℕ) (c : Call) (k : Keeper)
+    → form now (base keeps stirs tm l c k) cc t ≡ obey c (feeding now keeps stirs tm l cc t) k
+unfolding form base feeding obey pick mix extractBlocks generated stream xorAt bytesWords
+formed now keeps stirs tm l cc t c k =
+    let b = base keeps stirs tm l c k in
+    let e = extract inputShape t (inputPool b) in
+    let z : e .runs ≡ e .runs + 0 + 0 = omega arith in
+    ap (λ (n : ℕ). record {
+      keeper =
+          withLedger (withSpots (e .pool .spot) (blockingSpot (b .ledger)) (reseeding now cc t (b .ledger)))
+          (withGenerator (ontoKey (e .bytes) (b .generator)) (withInput (e .pool) b));
+      answer = record { number = 0; delivered = 0; blocks = 0; compressions = n };
+      bytes = [];
+    }) z
+
+feeds : (now n : ℕ) (keeps stirs : Bool) (tm : Timer) (l : Ledger) (c : Call) (k : Keeper)
+    → let cc = credited (inputShape .size) n (inputCount l) in
+    finished (creditInput now n (base keeps stirs tm l c k)) ≡ obey c (feeding now keeps stirs tm l cc (firstSeeding n cc l)) k
+unfolding creditInput reseed firstSeeding base
+feeds now n keeps stirs tm l c k =
+    let cc = credited (inputShape .size) n (inputCount l) in
+    credits now (base keeps stirs tm l c k) (eqb n 0) (not (l .seeded)) (leb 1024 cc) cc (reseedTakes cc) (λ h. credited-none (inputShape .size) n (inputCount l) h)
+    ∙ formed now keeps stirs tm l cc (firstSeeding n cc l) c k
+
+-- ---- the calls, one by one
+fed-event : (device now stamp value : ℕ) (k : Keeper)
+    → let t = deviceTimer k device in
+    let k₁ = mixInput (eventBytes stamp now value) k in
+    finished (creditInput now (eventBits now t) (withTimer device (nextTimer now t) (withLedger (valued device value (k₁ .ledger)) k₁)))
+    ≡ obey (deviceEvent device now stamp value) (keeping (nextTimer now t) (feed now false (eventBits now t) (valued device value (k .ledger)))) k
+unfolding feed feeding base pick
+fed-event device now stamp value k =
+    let t = deviceTimer k device in
+    feeds now (eventBits now t) true false (nextTimer now t) (valued device value (k .ledger)) (deviceEvent device now stamp value) k
+
+same-event : (device now stamp value : ℕ) (k : Keeper)
+    → eventCall device now stamp value k ≡ obey (deviceEvent device now stamp value) (planEvent device now value (deviceTimer k device) (k .ledger)) k
+unfolding eventCall planEvent
+same-event device now stamp value k =
+    let c = deviceEvent device now stamp value in
+    obey-pick c _ _ _ k (rests 4 c k) (obey-pick c _ _ _ k (rests 7 c k) (fed-event device now stamp value k))
+
+only-stirs : (now number stamp address : ℕ) (k : Keeper)
+    → finished (withLedger (tallied (k .ledger)) (withFast (stirred now number stamp address (k .fast)) k), 0)
+    ≡ obey (interrupted now number stamp address) (planOf 0 (tallied (k .ledger)) true false 0 0 0 0) k
+unfolding obey pick mix extractBlocks generated stream xorAt bytesWords
+only-stirs now number stamp address k = refl
+
+spills : (now number stamp address : ℕ) (k : Keeper)
+    → let f = stirred now number stamp address (k .fast) in
+    let k₁ = mixInput (wordsBytes f) (withFast f k) in
+    finished (creditInput now 1 (withLedger (spilled now (k₁ .ledger)) k₁))
+    ≡ obey (interrupted now number stamp address) (feed now true 1 (spilled now (k .ledger))) k
+unfolding feed feeding base pick
+spills now number stamp address k = feeds now 1 false true freshTimer (spilled now (k .ledger)) (interrupted now number stamp address) k
+
+same-interrupt : (now number stamp address : ℕ) (k : Keeper)
+    → interruptCall now number stamp address k ≡ obey (interrupted now number stamp address) (planInterrupt now (k .ledger)) k
+unfolding interruptCall planInterrupt
+same-interrupt now number stamp address k =
+    obey-pick (interrupted now number stamp address) _ _ _ k (only-stirs now number stamp address k) (spills now number stamp address k)
+
+mixes : (bs : List ℕ) (k : Keeper) → finished (mixInput bs k, 0) ≡ obey (written bs) (planOf 0 (k .ledger) false true 0 0 0 0) k
+unfolding obey pick mix extractBlocks generated stream xorAt bytesWords
+mixes bs k = refl
+
+same-write : (bs : List ℕ) (k : Keeper) → writeCall bs k ≡ obey (written bs) (planWrite (length bs) (k .ledger)) k
+unfolding writeCall planWrite
+same-write bs k = obey-pick (written bs) _ _ _ k (rests 3 (written bs) k) (mixes bs k)
+
+seeds : (now : ℕ) (bs : List ℕ) (credit : ℕ) (k : Keeper)
+    → finished (creditInput now credit (mixInput bs k)) ≡ obey (seededWith now bs credit) (feed now false credit (k .ledger)) k
+unfolding feed feeding base pick
+seeds now bs credit k = feeds now credit false false freshTimer (k .ledger) (seededWith now bs credit) k
+
+same-seed : (now : ℕ) (bs : List ℕ) (credit : ℕ) (k : Keeper) → seedCall now bs credit k ≡ obey (seededWith now bs credit) (planSeed now (length bs) credit (k .ledger)) k
+unfolding seedCall planSeed
+same-seed now bs credit k =
+    let c = seededWith now bs credit in
+    obey-pick c _ _ _ k (rests 3 c k) (obey-pick c _ _ _ k (rests 5 c k) (seeds now bs credit k))
+
+-- a read that takes t bytes for a reseed first
+reads : (now len t : ℕ) (c : Call) (k : Keeper)
+    → let e = extract inputShape t (inputPool k) in
+    generate len (pick (eqb t 0) (k, 0) (rekey now e (debitInput t k), e .runs))
+    ≡ obey c (planOf 0 (reseeding now (inputCount (k .ledger)) t (k .ledger)) false false t 0 0 len) k
+unfolding obey pick generate mix extractBlocks xorAt bytesWords
+reads now len zero c k =
+    let e : inputCount (k .ledger) ≡ inputCount (k .ledger) - 64 * 0 = omega arith in
+    ap (λ (n : ℕ). generate len (recount n (blockingCount (k .ledger)) k, 0)) e
+reads now len (suc n) c k =
+    let e = extract inputShape (suc n) (inputPool k) in
+    let z : e .runs ≡ e .runs + 0 + 0 = omega arith in
+    rw (ne-eqb (suc n) 0 (λ h. omega arith)) (ap (λ (m : ℕ). generate len (rekey now e (debitInput (suc n) k), m)) z)
+
+reads-if : (now len : ℕ) (due : Bool) (c : Call) (k : Keeper)
+    → generate len (pick due (reseed now k) (k, 0))
+    ≡ obey c (planOf 0 (reseeding now (inputCount (k .ledger)) (pick due (reseedTakes (inputCount (k .ledger))) 0) (k .ledger)) false false (pick due (reseedTakes (inputCount (k .ledger))) 0) 0 0 len) k
+unfolding reseed pick
+reads-if now len true c k = reads now len (reseedTakes (inputCount (k .ledger))) c k
+reads-if now len false c k = reads now len 0 c k
+
+same-read : (now len : ℕ) (k : Keeper) → readCall now len k ≡ obey (generatorRead now len) (planRead now len (k .ledger)) k
+unfolding readCall planRead
+same-read now len k =
+    let c = generatorRead now len in
+    obey-pick c _ _ _ k (rests 3 c k) (obey-pick c _ _ _ k (rests 0 c k) (obey-pick c _ _ _ k (rests 2 c k) (reads-if now len (reseedDue now (k .ledger)) c k)))
+
+-- t bytes brought over, then what is taken for n delivered
+draws : (n t : ℕ) (c : Call) (k : Keeper)
+    → let d = taken n 0 (refilled t (k .ledger)) in
+    deliver n (transfer t k) ≡ obey c (planOf 0 (withCounts (debited t (inputCount (k .ledger))) (debited d (refilled t (k .ledger))) (k .ledger)) false false 0 t d 0) k
+unfolding deliver transfer obey pick mix extractBlocks generated stream xorAt bytesWords
+draws n t c k =
+    let d = taken n 0 (refilled t (k .ledger)) in
+    let x = extract inputShape t (inputPool k) in
+    let y = extract blockingShape d (mix blockingShape (blockingPool k) (x .bytes)) in
+    let z : x .runs + y .runs ≡ 0 + x .runs + y .runs = omega arith in
+    let k₁ = withBlocking (y .pool) (withInput (x .pool) (recount (debited t (inputCount (k .ledger))) (debited d (refilled t (k .ledger))) k)) in
+    ap₂ (λ (m : ℕ) (bs : List ℕ). record { keeper = k₁; answer = record { number = 0; delivered = length bs; blocks = 0; compressions = m }; bytes = bs }) z (sym (append-nil (y .bytes)))
+
+same-blocking : (n : ℕ) (k : Keeper) → blockingCall n k ≡ obey (blockingReadOf n) (planBlockingRead n (k .ledger)) k
+unfolding blockingCall planBlockingRead
+same-blocking n k =
+    let c = blockingReadOf n in
+    obey-pick c _ _ _ k (rests 3 c k) (obey-pick c _ _ _ k (rests 0 c k) (obey-pick c _ _ _ k (rests 1 c k) (draws n (transferred n (k .ledger)) c k)))
+
+same-act : (k : Keeper) (c : Call) → act k c ≡ obey c (planCall (k .ledger) (deviceTimer k (deviceOf (public c))) (public c)) k
+unfolding act planCall
+same-act k (deviceEvent device now stamp value) = same-event device now stamp value k
+same-act k (interrupted now number stamp address) = same-interrupt now number stamp address k
+same-act k (written bs) = same-write bs k
+same-act k (seededWith now bs credit) = same-seed now bs credit k
+same-act k (generatorRead now len) = same-read now len k
+same-act k (blockingReadOf n) = same-blocking n k
+
+-- THE THEOREM
+pub same : (k : Keeper) (c : Call) → told k c ≡ step k c
+unfolding told step decide
+same k c = obey-pick c _ _ _ k (same-act k c) (rests 17 c k)

@@ -1,0 +1,137 @@
+-- Work is real. The ChaCha20 count of a call is how far words 12 and 13 moved as one 64-bit counter, modulo 2^64; its compressions are 8 for
+-- each 20 bytes by which extraction moved the input pool and 2 for each 20 bytes by which it moved the blocking pool. So no fixed and
+-- no invented count can be reported. Assumes nothing.
+use mathlib.Core.Path.{_≡_, refl, sym, ap, ap₂, _∙_}
+use mathlib.Core.Bool.{Bool, true, false, _&&_, not}
+use mathlib.Core.List.{List, []}
+use Prim.Native.Nat.{ℕ, zero, suc, _+_, _*_, _%_, _^_, _<_, _≤_}
+use native.Mathlib.Omega.{arith}
+use native.Mathlib.Nat.{zero-add, suc-add}
+use lib.ListN.{length, getD}
+use Rattle.words.proofs.Numbers.{bytesWords-lt}
+use Rattle.ledger.specs.Choice.{pick}
+use Rattle.ledger.specs.Shapes.{Shape, inputShape, blockingShape}
+use Rattle.ledger.specs.Places.{moved, movedBlocks, blocksOf}
+use Rattle.ledger.specs.Marks.{inputCount, inputSpot, blockingSpot, reseedDue}
+use Rattle.ledger.specs.PublicCalls.{PublicCall, event, interrupt, write, seed, read, blockingRead, brings}
+use Rattle.ledger.specs.Credits.{reseedTakes}
+use Rattle.ledger.specs.Plans.{firstSeeding, feed, planEvent, planInterrupt, planWrite, planSeed, planRead, planBlockingRead, planCall, decide}
+use Rattle.ledger.specs.Machine.{View, Shown, planAt, inputMoved, blockingMoved, planned, stepView}
+use Rattle.ledger.specs.declared.Ledger.{Ledger}
+use Rattle.ledger.specs.declared.Timer.{Timer}
+use Rattle.ledger.specs.declared.Plan.{Plan}
+use Rattle.ledger.specs.declared.Spot.{Spot}
+use Rattle.ledger.proofs.Picks.{pick-both}
+use Rattle.ledger.proofs.Crediting.{taken-wanted}
+use Rattle.pool.specs.Mixing.{mix}
+use Rattle.pool.specs.Extracting.{extract}
+use Rattle.pool.proofs.Extracted.{extract-length}
+use Rattle.keeper.specs.Generator.{ontoKey, generated}
+use Rattle.keeper.specs.Record.{inputPool, fresh, view, Outcome}
+use Rattle.keeper.specs.Calls.{Call, public, stirredBy, payload}
+use Rattle.keeper.specs.Narrative.{told}
+use Rattle.keeper.specs.Obey.{obey, step}
+use Rattle.keeper.specs.declared.Keeper.{Keeper}
+use Rattle.keeper.proofs.Counter.{counter, Gen, key-counter, key-gen, generated-counter, generated-gen}
+use Rattle.keeper.proofs.Same.{same}
+use Rattle.keeper.proofs.Shadow.{Whole, shadow, view-is}
+use Rattle.keeper.proofs.Blind.{fresh-whole}
+
+-- ---- a plan takes at most 32 bytes onto the key
+record Few (p : Plan) : Type 0 where
+  few : p .reseed ≤ 32
+
+none : (p : Plan) → p .reseed ≡ 0 → Few p
+none p e = record { few = omega arith }
+
+picked-few : (t : Bool) (count : ℕ) → pick t (reseedTakes count) 0 ≤ 32
+picked-few t count = pick-both (λ (n : ℕ). n ≤ 32) t (taken-wanted 32 16 count) (omega arith)
+
+feed-few : (now : ℕ) (stirs : Bool) (n : ℕ) (l : Ledger) → Few (feed now stirs n l)
+unfolding feed firstSeeding
+feed-few now stirs n l = record { few = picked-few _ _ }
+
+call-few : (l : Ledger) (t : Timer) (c : PublicCall) → Few (planCall l t c)
+unfolding planCall planEvent planInterrupt planWrite planSeed planRead planBlockingRead
+call-few l t (event device now value) = pick-both Few _ (none _ refl) (pick-both Few _ (none _ refl) (record { few = (feed-few now false _ _) .few }))
+call-few l t (interrupt now number) = pick-both Few _ (none _ refl) (feed-few now true 1 _)
+call-few l t (write len) = pick-both Few _ (none _ refl) (none _ refl)
+call-few l t (seed now len credit) = pick-both Few _ (none _ refl) (pick-both Few _ (none _ refl) (feed-few now false credit l))
+call-few l t (read now len) = pick-both Few _ (none _ refl) (pick-both Few _ (none _ refl) (pick-both Few _ (none _ refl) (record { few = picked-few _ _ })))
+call-few l t (blockingRead n) = pick-both Few _ (none _ refl) (pick-both Few _ (none _ refl) (pick-both Few _ (none _ refl) (none _ refl)))
+
+plan-few : (v : View) (c : PublicCall) → Few (planAt v c)
+unfolding decide
+plan-few v c = pick-both Few _ (call-few (v .ledger) _ c) (none _ refl)
+
+-- ---- the generator's blocks
+-- what is taken for a reseed, under a plan
+onto : Call → Plan → Keeper → List ℕ
+onto c p k = (extract inputShape (p .reseed) (mix inputShape (inputPool k) (pick (p .feeds) (payload c (pick (p .stirs) (stirredBy c (k .fast)) (k .fast))) []))) .bytes
+
+onto-few : (c : Call) (p : Plan) (k : Keeper) → Few p → length (onto c p k) ≤ 32
+unfolding onto
+onto-few c p k f = rw (extract-length inputShape (p .reseed) _) (f .few)
+
+obey-gen : (c : Call) (p : Plan) (k : Keeper) → Few p → Gen (k .generator) → Gen ((obey c p k) .keeper .generator)
+unfolding obey onto
+obey-gen c p k f g = generated-gen (p .stream) (ontoKey (onto c p k) (k .generator)) (key-gen (onto c p k) (k .generator) (onto-few c p k f) g)
+
+obey-counter : (c : Call) (p : Plan) (k : Keeper) → Few p → Gen (k .generator)
+    → counter ((obey c p k) .keeper .generator) ≡ (counter (k .generator) + (obey c p k) .answer .blocks) % 2 ^ 64
+unfolding obey onto
+obey-counter c p k f g =
+    let h = onto-few c p k f in
+    let x = ontoKey (onto c p k) (k .generator) in
+    generated-counter (p .stream) x (key-gen (onto c p k) (k .generator) h g)
+    ∙ ap (λ (n : ℕ). (n + (generated (p .stream) x) .blocks) % 2 ^ 64) (key-counter (onto c p k) (k .generator) h)
+
+-- a generator in order stays so, whatever the call
+pub stays-gen : (k : Keeper) (c : Call) → Gen (k .generator) → Gen ((told k c) .keeper .generator)
+unfolding step
+stays-gen k c g = rw (same k c) (obey-gen c (planAt (view k) (public c)) k (plan-few (view k) (public c)) g)
+
+-- THE CHACHA20 COUNT of every call: how far words 12 and 13 moved as one counter
+pub blocks-real : (k : Keeper) (c : Call) → Gen (k .generator) → counter ((told k c) .keeper .generator) ≡ (counter (k .generator) + (told k c) .answer .blocks) % 2 ^ 64
+unfolding step
+blocks-real k c g = rw (same k c) (obey-counter c (planAt (view k) (public c)) k (plan-few (view k) (public c)) g)
+
+-- a fresh keeper's generator is in order
+pub fresh-gen : (start : List ℕ) → length start ≡ 48 → ((i : ℕ) → getD start i 0 < 2 ^ 8) → Gen ((fresh start) .generator)
+fresh-gen start h b =
+    record {
+      long = (fresh-whole start h) .generator;
+      low = bytesWords-lt start b 8;
+      high = bytesWords-lt start b 9;
+    }
+
+-- ---- the pools' compressions
+blocks-add : (sh : Shape) (a b : ℕ) (s : Spot) → movedBlocks sh b (movedBlocks sh a s) ≡ movedBlocks sh (a + b) s
+unfolding movedBlocks
+blocks-add sh zero b s = ap (λ (n : ℕ). movedBlocks sh n s) (sym (zero-add b))
+blocks-add sh (suc a) b s = blocks-add sh a b (moved sh 20 s) ∙ ap (λ (n : ℕ). movedBlocks sh n s) (sym (suc-add a b))
+
+-- how far each pool moved, and what was counted for it: `fed` bytes went into the input pool and `passed` into the blocking pool, and
+-- extraction then moved them by 20 bytes for each of its blocks
+pub record Moved (k : Keeper) (o : Outcome) (fed passed : ℕ) : Type 0 where
+  pub inputBlocks : ℕ
+  pub blockingBlocks : ℕ
+  pub input : inputSpot (o .keeper .ledger) ≡ movedBlocks inputShape inputBlocks (moved inputShape fed (inputSpot (k .ledger)))
+  pub blocking : blockingSpot (o .keeper .ledger) ≡ movedBlocks blockingShape blockingBlocks (moved blockingShape passed (blockingSpot (k .ledger)))
+  pub compressions : o .answer .compressions ≡ 8 * inputBlocks + 2 * blockingBlocks
+
+-- THE COMPRESSIONS of every call
+pub compressions-real : (k : Keeper) (c : Call) → Whole k
+    → let p = planAt (view k) (public c) in
+    Moved k (told k c) (pick (p .feeds) (brings (public c)) 0) (p .transfer)
+unfolding stepView planned inputMoved blockingMoved
+compressions-real k c w =
+    let v = view k in
+    let p = planAt v (public c) in
+    record {
+      inputBlocks = blocksOf (p .reseed) + blocksOf (p .transfer);
+      blockingBlocks = blocksOf (p .deliver);
+      input = ap (λ (u : View). inputSpot (u .ledger)) (view-is k c w) ∙ blocks-add inputShape (blocksOf (p .reseed)) (blocksOf (p .transfer)) _;
+      blocking = ap (λ (u : View). blockingSpot (u .ledger)) (view-is k c w);
+      compressions = ap (λ (s : Shown). s .compressions) (shadow k c w) ∙ omega arith;
+    }

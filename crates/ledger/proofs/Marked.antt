@@ -1,0 +1,163 @@
+-- The marked cases P1 to P12, and the edges that none of them meets, in one table: each row has what the definitions give beside what
+-- it has to be, and computing shows that they are the same.
+use mathlib.Core.Path.{_≡_, refl}
+use mathlib.Core.Bool.{Bool, true, false}
+use mathlib.Core.List.{List, [], _∷_, map}
+use Prim.Native.Nat.{ℕ, _+_, _-_, _/_}
+use lib.IntN.{ℤ, pos, negsuc}
+use lib.ListN.{replicate, set}
+use Rattle.ledger.specs.Choice.{pick}
+use Rattle.ledger.specs.Places.{moved, movedBlocks}
+use Rattle.ledger.specs.Credits.{turnTakes, turnAdds, further, credited, taken}
+use Rattle.ledger.specs.Clocks.{signed, clockDiff, log2, estimate, eventBits}
+use Rattle.ledger.specs.Marks.{inputCount, blockingCount}
+use Rattle.ledger.specs.Range.{fixedWords, ledgerInRange, inRange}
+use Rattle.ledger.specs.PublicCalls.{PublicCall, event, interrupt, write, seed, read, blockingRead}
+use Rattle.ledger.specs.Plans.{firstSeeding, feed, planEvent, planInterrupt, planWrite, planSeed, planRead, planBlockingRead, planCall, decide}
+use Rattle.ledger.specs.Machine.{View, Shown, freshView, inputMoved, blockingMoved, planned, planAt, stepView}
+use Rattle.ledger.specs.declared.Spot.{Spot}
+use Rattle.ledger.proofs.InRange.{viewAfter}
+
+-- ---- how a row is written
+-- a line has number, delivered, input count and blocking count afterwards, ChaCha20 blocks, compressions, and whether it is seeded
+abbrev pub Line : Type 0
+Line = ℕ × ℕ × ℕ × ℕ × ℕ × ℕ × Bool
+
+-- what an answer shows
+abbrev pub line : Shown → Line
+line s = (s .number, s .delivered, inputCount (s .view .ledger), blockingCount (s .view .ledger), s .blocks, s .compressions, s .view .ledger .seeded)
+
+-- the lines of calls made one after the other
+unfoldable pub linesFrom : View → List PublicCall → List Line
+linesFrom v [] = []
+linesFrom v (c ∷ cs) = line (stepView v c) ∷ linesFrom ((stepView v c) .view) cs
+
+-- one side of a row: plain numbers, differences of clocks, or lines
+pub data Side : Type 0 where
+  numbers : List ℕ → Side
+  differences : List ℤ → Side
+  lines : List Line → Side
+
+-- what calls made one after the other show, from a view ..
+abbrev pub from : View → List PublicCall → Side
+from v cs = lines (linesFrom v cs)
+
+-- .. from a fresh start
+abbrev pub fresh : List PublicCall → Side
+fresh cs = from freshView cs
+
+-- what each of some calls is answered at one and the same view
+abbrev pub each : View → List PublicCall → Side
+each v cs = numbers (map (λ c. (stepView v c) .number) cs)
+
+-- what one call is answered at each of some views
+abbrev pub atEach : List View → PublicCall → Side
+atEach vs c = numbers (map (λ v. (stepView v c) .number) vs)
+
+-- a seed of just enough bytes for n bits, at clock 0
+abbrev pub bits : ℕ → PublicCall
+bits n = seed 0 ((n + 7) / 8) n
+
+-- a position and a rotation
+abbrev pub spot : ℕ → ℕ → Spot
+spot i r = record { at = i; turn = r }
+
+-- a view that is fresh but for its counts, its spots, its tally, the d1 and d2 of device 15, and the fixed words
+abbrev pub but : ℕ → ℕ → Spot → Spot → ℕ → ℤ → ℤ → List ℕ → View
+but i b si sb n d1 d2 words =
+    record {
+      ledger = record { «input_count» = i; «blocking_count» = b; «input_spot» = si; «blocking_spot» = sb; «last_value» = 0; tally = n; «last_spill» = 0; seeded = false; «seeding_clock» = 0 };
+      clocks = freshView .clocks;
+      firsts = set (freshView .firsts) 15 d1;
+      seconds = set (freshView .seconds) 15 d2;
+      fixed = words;
+    }
+
+-- a view that is fresh but for its counts
+abbrev pub counts : ℕ → ℕ → View
+counts i b = but i b (spot 0 0) (spot 0 0) 0 (pos 0) (pos 0) fixedWords
+
+-- ---- the table
+abbrev pub table : List (Side × Side)
+table =
+    -- P1, P2: the credit for a least amount
+    (numbers (map estimate (0 ∷ 1 ∷ 2 ∷ 3 ∷ 4 ∷ [])), numbers (0 ∷ 0 ∷ 1 ∷ 1 ∷ 2 ∷ []))
+    ∷ (numbers (map estimate (2047 ∷ 2048 ∷ 4096 ∷ [])), numbers (10 ∷ 11 ∷ 11 ∷ []))
+    -- P3, P4: clock 4 after 0xFFFFFFFF, and 0x80000000 after 0
+    ∷ (differences (clockDiff 4 0xFFFFFFFF ∷ clockDiff 0x80000000 0 ∷ []), differences (pos 5 ∷ negsuc 2147483647 ∷ []))
+    -- P5, P6: one bit onto 0 and onto 32,762
+    ∷ (numbers (credited 32768 1 0 ∷ credited 32768 1 32762 ∷ []), numbers (6 ∷ 32762 ∷ []))
+    -- P7: 170 bits
+    ∷ (fresh (bits 170 ∷ []), lines ((0, 0, 1020, 0, 0, 0, false) ∷ []))
+    -- P8: 171 bits; 16 bytes are taken
+    ∷ (fresh (bits 171 ∷ []), lines ((0, 0, 2, 0, 0, 16, true) ∷ []))
+    ∷ (numbers ((planAt freshView (bits 171)) .reseed ∷ []), numbers (16 ∷ []))
+    -- P9: 256 bits; 24 bytes are taken
+    ∷ (fresh (bits 256 ∷ []), lines ((0, 0, 0, 0, 0, 24, true) ∷ []))
+    ∷ (numbers ((planAt freshView (bits 256)) .reseed ∷ []), numbers (24 ∷ []))
+    -- P10: 4,096 bits, whose two turns come to 12,288 and 19,968 and leave no rest; P11: straight after it, a blocking read of 16
+    ∷ (numbers ((0 + turnAdds 32768 0 32768) ∷ (32768 - turnTakes 32768 32768) ∷ (12288 + turnAdds 32768 12288 16384) ∷ (16384 - turnTakes 32768 16384) ∷ credited 32768 4096 0 ∷ []), numbers (12288 ∷ 16384 ∷ 19968 ∷ 0 ∷ 19968 ∷ []))
+    ∷ (fresh (bits 4096 ∷ blockingRead 16 ∷ []), lines ((0, 0, 17920, 0, 0, 32, true) ∷ (0, 12, 16896, 0, 0, 20, true) ∷ []))
+    -- P12: generator reads of 32, 33, 64, 65 and 97 bytes with no reseed due
+    ∷ (fresh (bits 256 ∷ read 0 32 ∷ read 0 33 ∷ read 0 64 ∷ read 0 65 ∷ read 0 97 ∷ []), lines ((0, 0, 0, 0, 0, 24, true) ∷ (0, 32, 0, 0, 1, 0, true) ∷ (0, 33, 0, 0, 2, 0, true) ∷ (0, 64, 0, 0, 2, 0, true) ∷ (0, 65, 0, 0, 2, 0, true) ∷ (0, 97, 0, 0, 3, 0, true) ∷ []))
+    -- the shortest and the longest generator read, and one whose used bytes are rounded up past 32
+    ∷ (fresh (bits 256 ∷ read 0 1 ∷ read 0 4096 ∷ read 0 93 ∷ []), lines ((0, 0, 0, 0, 0, 24, true) ∷ (0, 1, 0, 0, 1, 0, true) ∷ (0, 4096, 0, 0, 65, 0, true) ∷ (0, 93, 0, 0, 2, 0, true) ∷ []))
+    -- an event of device 1 on a fresh keeper at 1,024: 10 bits, 60 units; then its clock runs back, and then it does not move
+    ∷ (fresh (event 1 1024 0 ∷ event 1 0 0 ∷ event 1 0 0 ∷ []), lines ((0, 0, 60, 0, 0, 0, false) ∷ (0, 0, 119, 0, 0, 0, false) ∷ (0, 0, 119, 0, 0, 0, false) ∷ []))
+    -- the least of the three amounts counts: all are 1,000, then d2 is 0, then d2 and d3 are 1,000
+    ∷ (fresh (event 2 1000 0 ∷ event 2 2000 0 ∷ event 2 4000 0 ∷ []), lines ((0, 0, 54, 0, 0, 0, false) ∷ (0, 0, 54, 0, 0, 0, false) ∷ (0, 0, 107, 0, 0, 0, false) ∷ []))
+    -- amounts at the ends of the range: d1 at its least twice, so that d2 is then 0, and d1 at its most, with d2 at its most
+    ∷ (fresh (event 2 0x80000000 0 ∷ event 2 0 0 ∷ event 2 0x7FFFFFFF 0 ∷ []), lines ((0, 0, 66, 0, 0, 0, false) ∷ (0, 0, 66, 0, 0, 0, false) ∷ (0, 0, 131, 0, 0, 0, false) ∷ []))
+    -- a reseed is due past 300,000 ticks and not at them, nor where the clock ran back; they count from the last reseed
+    ∷ (fresh (bits 4096 ∷ read 300000 1 ∷ read 300001 1 ∷ read 300000 1 ∷ read 0 1 ∷ read 600001 1 ∷ read 600002 1 ∷ []), lines ((0, 0, 17920, 0, 0, 32, true) ∷ (0, 1, 17920, 0, 1, 0, true) ∷ (0, 1, 15872, 0, 1, 32, true) ∷ (0, 1, 15872, 0, 1, 0, true) ∷ (0, 1, 15872, 0, 1, 0, true) ∷ (0, 1, 15872, 0, 1, 0, true) ∷ (0, 1, 13824, 0, 1, 32, true) ∷ []))
+    -- half the clock's range ahead reads as a clock that ran back; one less is the longest wait
+    ∷ (fresh (bits 4096 ∷ read 0x80000000 1 ∷ read 0x7FFFFFFF 1 ∷ []), lines ((0, 0, 17920, 0, 0, 32, true) ∷ (0, 1, 17920, 0, 1, 0, true) ∷ (0, 1, 15872, 0, 1, 32, true) ∷ []))
+    -- a reseed that is due and finds fewer than 16 bytes changes nothing, and stays due
+    ∷ (fresh (bits 171 ∷ read 300001 1 ∷ bits 256 ∷ read 300001 1 ∷ []), lines ((0, 0, 2, 0, 0, 16, true) ∷ (0, 1, 2, 0, 1, 0, true) ∷ (0, 0, 1537, 0, 0, 0, true) ∷ (0, 1, 1, 0, 1, 24, true) ∷ []))
+    -- the least of a reseed is 16: 961 units are 15 bytes, and none is taken; 1,030 are 16
+    ∷ (fresh (bits 171 ∷ bits 160 ∷ read 300001 1 ∷ bits 12 ∷ read 300001 1 ∷ []), lines ((0, 0, 2, 0, 0, 16, true) ∷ (0, 0, 961, 0, 0, 0, true) ∷ (0, 1, 961, 0, 1, 0, true) ∷ (0, 0, 1030, 0, 0, 0, true) ∷ (0, 1, 6, 0, 1, 16, true) ∷ []))
+    -- an interrupt spills past 1,000 ticks and not at them, nor where the clock ran back
+    ∷ (fresh (interrupt 1000 7 ∷ interrupt 0xFFFFFFFF 7 ∷ interrupt 1001 7 ∷ interrupt 2001 7 ∷ interrupt 1000 7 ∷ interrupt 2002 7 ∷ []), lines ((0, 0, 0, 0, 0, 0, false) ∷ (0, 0, 0, 0, 0, 0, false) ∷ (0, 0, 6, 0, 0, 0, false) ∷ (0, 0, 6, 0, 0, 0, false) ∷ (0, 0, 6, 0, 0, 0, false) ∷ (0, 0, 11, 0, 0, 0, false) ∷ []))
+    -- the 64th interrupt in a row spills: not the 63rd and not the 65th
+    ∷ (from (viewAfter freshView (replicate 62 (interrupt 0 7))) (interrupt 0 7 ∷ interrupt 0 7 ∷ interrupt 0 7 ∷ []), lines ((0, 0, 0, 0, 0, 0, false) ∷ (0, 0, 6, 0, 0, 0, false) ∷ (0, 0, 6, 0, 0, 0, false) ∷ []))
+    -- the first seeding comes at exactly 1,024
+    ∷ (fresh (bits 169 ∷ bits 1 ∷ bits 1 ∷ []), lines ((0, 0, 1014, 0, 0, 0, false) ∷ (0, 0, 1019, 0, 0, 0, false) ∷ (0, 0, 0, 0, 0, 16, true) ∷ []))
+    -- and not at 1,023
+    ∷ (fresh (bits 168 ∷ bits 1 ∷ bits 1 ∷ bits 1 ∷ bits 1 ∷ []), lines ((0, 0, 1008, 0, 0, 0, false) ∷ (0, 0, 1013, 0, 0, 0, false) ∷ (0, 0, 1018, 0, 0, 0, false) ∷ (0, 0, 1023, 0, 0, 0, false) ∷ (0, 0, 4, 0, 0, 16, true) ∷ []))
+    -- it comes after an event's and an interrupt's credit too
+    ∷ (from (counts 1019 0) (interrupt 1001 7 ∷ []), lines ((0, 0, 0, 0, 0, 16, true) ∷ []))
+    ∷ (from (counts 1019 0) (event 3 2 0 ∷ []), lines ((0, 0, 0, 0, 0, 16, true) ∷ []))
+    -- an unseeded count above 1,024 waits for a credit above 0: a write, a seed of 0 bits, a credit of 1
+    ∷ (from (counts 2000 0) (write 64 ∷ bits 0 ∷ event 3 1 0 ∷ bits 1 ∷ []), lines ((0, 0, 2000, 0, 0, 0, false) ∷ (0, 0, 2000, 0, 0, 0, false) ∷ (0, 0, 2000, 0, 0, 0, false) ∷ (0, 0, 21, 0, 0, 32, true) ∷ []))
+    -- blocking reads at the thresholds: 63 and 511 are refused; 512 of input or 64 of blocking give a byte or more
+    ∷ (from (counts 511 63) (blockingRead 1 ∷ []), lines ((1, 0, 511, 63, 0, 0, false) ∷ []))
+    ∷ (from (counts 512 0) (blockingRead 1 ∷ []), lines ((0, 1, 0, 320, 0, 10, false) ∷ []))
+    ∷ (from (counts 0 64) (blockingRead 1 ∷ []), lines ((0, 1, 0, 0, 0, 2, false) ∷ []))
+    -- the least that is brought over is 8: with 511 units of input a read of 2 gets the one byte that the blocking pool has
+    ∷ (from (counts 511 64) (blockingRead 2 ∷ []), lines ((0, 1, 511, 0, 0, 2, false) ∷ []))
+    -- a blocking read brings over 128 bytes at most, and none where the blocking pool has enough
+    ∷ (from (counts 32768 0) (blockingRead 4096 ∷ []), lines ((0, 78, 24576, 0, 0, 120, false) ∷ []))
+    ∷ (from (counts 32768 640) (blockingRead 10 ∷ []), lines ((0, 10, 32768, 0, 0, 2, false) ∷ []))
+    -- numbers 1 and 2, and lengths of 0, which are answered 0 even unseeded
+    ∷ (each freshView (blockingRead 1 ∷ read 0 1 ∷ blockingRead 0 ∷ read 0 0 ∷ write 0 ∷ bits 0 ∷ []), numbers (1 ∷ 2 ∷ 0 ∷ 0 ∷ 0 ∷ 0 ∷ []))
+    -- number 3: past 4,096 and not at it; it is tested before 5, 1 and 2
+    ∷ (each freshView (write 4097 ∷ seed 0 4097 0 ∷ read 0 4097 ∷ blockingRead 4097 ∷ seed 0 4097 40000 ∷ []), numbers (3 ∷ 3 ∷ 3 ∷ 3 ∷ 3 ∷ []))
+    ∷ (each freshView (write 4096 ∷ seed 0 4096 0 ∷ read 0 4096 ∷ blockingRead 4096 ∷ []), numbers (0 ∷ 0 ∷ 2 ∷ 1 ∷ []))
+    -- number 4: past 15, tested before 7; number 5: above 8 bits a byte
+    ∷ (each freshView (event 16 5 0 ∷ event 15 5 0 ∷ seed 0 1 9 ∷ seed 0 1 8 ∷ seed 0 0 1 ∷ []), numbers (4 ∷ 0 ∷ 5 ∷ 0 ∷ 5 ∷ []))
+    -- number 7: on device 0 alone, where fresh keeps 0; the last value that was kept counts
+    ∷ (fresh (event 0 5 0 ∷ event 1 0 0 ∷ event 0 0 9 ∷ event 0 1 9 ∷ event 0 0 0 ∷ []), lines ((7, 0, 0, 0, 0, 0, false) ∷ (0, 0, 0, 0, 0, 0, false) ∷ (0, 0, 0, 0, 0, 0, false) ∷ (7, 0, 0, 0, 0, 0, false) ∷ (0, 0, 0, 0, 0, 0, false) ∷ []))
+    -- number 17 is tested first in every call
+    ∷ (each (counts 32769 0) (event 16 0 0 ∷ event 0 0 0 ∷ interrupt 0 0 ∷ write 4097 ∷ seed 0 1 9 ∷ read 0 0 ∷ read 0 1 ∷ blockingRead 0 ∷ blockingRead 1 ∷ []), numbers (17 ∷ 17 ∷ 17 ∷ 17 ∷ 17 ∷ 17 ∷ 17 ∷ 17 ∷ 17 ∷ []))
+    -- in range: every limit at once, d1 and d2 at both ends
+    ∷ (atEach (but 32768 8192 (spot 127 31) (spot 31 31) 63 (pos 2147483647) (pos 4294967295) fixedWords ∷ but 32768 8192 (spot 127 31) (spot 31 31) 63 (negsuc 2147483647) (negsuc 4294967294) fixedWords ∷ []) (read 0 0), numbers (0 ∷ 0 ∷ []))
+    -- out of range, one thing at a time: a count, a position, a rotation, the tally
+    ∷ (atEach (counts 32769 0 ∷ counts 0 8193 ∷ but 0 0 (spot 128 0) (spot 0 0) 0 (pos 0) (pos 0) fixedWords ∷ but 0 0 (spot 0 0) (spot 32 0) 0 (pos 0) (pos 0) fixedWords ∷ but 0 0 (spot 0 32) (spot 0 0) 0 (pos 0) (pos 0) fixedWords ∷ but 0 0 (spot 0 0) (spot 0 32) 0 (pos 0) (pos 0) fixedWords ∷ but 0 0 (spot 0 0) (spot 0 0) 64 (pos 0) (pos 0) fixedWords ∷ []) (read 0 0), numbers (17 ∷ 17 ∷ 17 ∷ 17 ∷ 17 ∷ 17 ∷ 17 ∷ []))
+    -- d1 and d2 past each end, a fixed word
+    ∷ (atEach (but 0 0 (spot 0 0) (spot 0 0) 0 (pos 2147483648) (pos 0) fixedWords ∷ but 0 0 (spot 0 0) (spot 0 0) 0 (negsuc 2147483648) (pos 0) fixedWords ∷ but 0 0 (spot 0 0) (spot 0 0) 0 (pos 0) (pos 4294967296) fixedWords ∷ but 0 0 (spot 0 0) (spot 0 0) 0 (pos 0) (negsuc 4294967295) fixedWords ∷ but 0 0 (spot 0 0) (spot 0 0) 0 (pos 0) (pos 0) (set fixedWords 3 0) ∷ []) (read 0 0), numbers (17 ∷ 17 ∷ 17 ∷ 17 ∷ 17 ∷ []))
+    ∷ []
+
+-- in every row, what the definitions give is what it has to be
+pub marked : map (λ (row : Side × Side). row .0) table ≡ map (λ (row : Side × Side). row .1) table
+unfolding pick signed log2 estimate eventBits further credited taken ledgerInRange inRange moved movedBlocks firstSeeding feed planEvent planInterrupt planWrite planSeed planRead planBlockingRead planCall decide inputMoved blockingMoved planned stepView viewAfter linesFrom
+marked = refl

@@ -1,0 +1,136 @@
+-- What does not move: a call that is not answered 0 changes nothing that is public and reports no work, no call delivers more than was
+-- asked for, and a seeded keeper stays seeded.
+use mathlib.Core.Path.{_≡_, refl}
+use mathlib.Core.Bool.{Bool, true}
+use Prim.Native.Nat.{ℕ, _+_, _≤_}
+use native.Mathlib.Omega.{arith}
+use lib.Dec.{ltb}
+use borrow.Author.Tests.{ltb-false}
+use Rattle.ledger.specs.Choice.{pick}
+use Rattle.ledger.specs.Places.{moved, movedBlocks}
+use Rattle.ledger.specs.PublicCalls.{PublicCall, event, interrupt, write, seed, read, blockingRead, deviceOf}
+use Rattle.ledger.specs.Plans.{rest, feed, transferred, refilled, planEvent, planInterrupt, planWrite, planSeed, planRead, planBlockingRead, planCall, decide}
+use Rattle.ledger.specs.Machine.{View, Shown, timerOf, inputMoved, blockingMoved, planned, planAt, stepView}
+use Rattle.ledger.specs.declared.Ledger.{Ledger}
+use Rattle.ledger.specs.declared.Plan.{Plan}
+use Rattle.ledger.specs.declared.Timer.{Timer}
+use Rattle.ledger.proofs.Picks.{pick-both, pick-by}
+use Rattle.ledger.proofs.Crediting.{taken-wanted}
+use Rattle.ledger.proofs.InRange.{viewInRange}
+
+-- ---- refusals
+-- a plan that answers 0, or does nothing
+data Still (l : Ledger) (p : Plan) : Type 0 where
+  answers : p .number ≡ 0 → Still l p
+  rests : p ≡ rest (p .number) l → Still l p
+
+-- each call has such a plan
+plan-still : (l : Ledger) (t : Timer) (c : PublicCall) → Still l (planCall l t c)
+unfolding planCall planEvent planInterrupt planWrite planSeed planRead planBlockingRead feed
+plan-still l t (event device now value) = pick-both (Still l) _ (rests refl) (pick-both (Still l) _ (rests refl) (answers refl))
+plan-still l t (interrupt now number) = pick-both (Still l) _ (answers refl) (answers refl)
+plan-still l t (write len) = pick-both (Still l) _ (rests refl) (answers refl)
+plan-still l t (seed now len credit) = pick-both (Still l) _ (rests refl) (pick-both (Still l) _ (rests refl) (answers refl))
+plan-still l t (read now len) = pick-both (Still l) _ (rests refl) (pick-both (Still l) _ (rests refl) (pick-both (Still l) _ (rests refl) (answers refl)))
+plan-still l t (blockingRead len) = pick-both (Still l) _ (rests refl) (pick-both (Still l) _ (rests refl) (pick-both (Still l) _ (rests refl) (answers refl)))
+
+-- in range or not
+decide-still : (fine : Bool) (l : Ledger) (t : Timer) (c : PublicCall) → Still l (decide fine l t c)
+unfolding decide
+decide-still fine l t c = pick-both (Still l) fine (plan-still l t c) (rests refl)
+
+-- an answer n that shows a view as it was, and no work
+abbrev pub unmoved : ℕ → View → Shown
+unmoved n v = record { view = v; number = n; delivered = 0; blocks = 0; compressions = 0 }
+
+-- doing nothing shows the view as it was
+rest-unmoved : (n : ℕ) (c : PublicCall) (v : View) → planned c (rest n (v .ledger)) v ≡ unmoved n v
+unfolding planned inputMoved blockingMoved moved movedBlocks pick
+rest-unmoved n c v = refl
+
+-- a call that is not answered 0 shows the view as it was
+pub refused : (v : View) (c : PublicCall) → ((stepView v c) .number ≡ 0 → ⊥) → stepView v c ≡ unmoved ((stepView v c) .number) v
+unfolding stepView planned
+refused v c h = go (decide-still (viewInRange v) (v .ledger) (timerOf (v .clocks) (v .firsts) (v .seconds) (deviceOf c)) c)
+  where
+    go : Still (v .ledger) (planAt v c) → planned c (planAt v c) v ≡ unmoved ((planAt v c) .number) v
+    go (answers e) = absurd (h e)
+    go (rests e) = rw e (rest-unmoved _ c v)
+
+-- ---- what is delivered
+-- the bytes that a call asks for
+abbrev pub asked : PublicCall → ℕ
+asked (event device now value) = 0
+asked (interrupt now number) = 0
+asked (write len) = 0
+asked (seed now len credit) = 0
+asked (read now len) = len
+asked (blockingRead len) = len
+
+-- a plan that hands out n bytes at most, and 4,096 at most
+record AtMost (n : ℕ) (p : Plan) : Type 0 where
+  asked : p .deliver + p .stream ≤ n
+  limit : p .deliver + p .stream ≤ 4096
+
+-- nothing done hands out nothing
+none : (n k : ℕ) (l : Ledger) → AtMost n (rest k l)
+none n k l = record { asked = omega arith; limit = omega arith }
+
+-- a generator read
+read-asked : (now len : ℕ) (l : Ledger) → AtMost len (planRead now len l)
+unfolding planRead
+read-asked now len l =
+    let P = AtMost len in
+    pick-by P (ltb 4096 len) (λ h. none len 3 l) (λ h. let e = ltb-false 4096 len h in
+    pick-both P _ (none len 0 l) (pick-both P _ (none len 2 l) (record { asked = omega arith; limit = omega arith })))
+
+-- a blocking read
+blocking-asked : (n : ℕ) (l : Ledger) → AtMost n (planBlockingRead n l)
+unfolding planBlockingRead
+blocking-asked n l =
+    let P = AtMost n in
+    let w = taken-wanted n 0 (refilled (transferred n l) l) in
+    pick-by P (ltb 4096 n) (λ h. none n 3 l) (λ h. let e = ltb-false 4096 n h in
+    pick-both P _ (none n 0 l) (pick-both P _ (none n 1 l) (record { asked = omega (arith, w); limit = omega (arith, w) })))
+
+-- each call
+plan-asked : (l : Ledger) (t : Timer) (c : PublicCall) → AtMost (asked c) (planCall l t c)
+unfolding planCall planEvent planInterrupt planWrite planSeed feed
+plan-asked l t (event device now value) = pick-both (AtMost 0) _ (none 0 4 l) (pick-both (AtMost 0) _ (none 0 7 l) (record { asked = omega arith; limit = omega arith }))
+plan-asked l t (interrupt now number) = pick-both (AtMost 0) _ (record { asked = omega arith; limit = omega arith }) (record { asked = omega arith; limit = omega arith })
+plan-asked l t (write len) = pick-both (AtMost 0) _ (none 0 3 l) (record { asked = omega arith; limit = omega arith })
+plan-asked l t (seed now len credit) = pick-both (AtMost 0) _ (none 0 3 l) (pick-both (AtMost 0) _ (none 0 5 l) (record { asked = omega arith; limit = omega arith }))
+plan-asked l t (read now len) = read-asked now len l
+plan-asked l t (blockingRead len) = blocking-asked len l
+
+-- no call delivers more than was asked for, nor more than 4,096 bytes
+pub delivered-fits : (v : View) (c : PublicCall) → ((stepView v c) .delivered ≤ asked c) × ((stepView v c) .delivered ≤ 4096)
+unfolding stepView planned decide
+delivered-fits v c =
+    let b = pick-both (AtMost (asked c)) (viewInRange v) (plan-asked (v .ledger) (timerOf (v .clocks) (v .firsts) (v .seconds) (deviceOf c)) c) (none (asked c) 17 (v .ledger)) in
+    (b .asked, b .limit)
+
+-- ---- seeded for good
+-- a plan that leaves the ledger seeded
+record Seeded (p : Plan) : Type 0 where
+  seeded : p .ledger .seeded ≡ true
+
+-- a mark that is set stays set under a choice of itself or set
+kept : (t m : Bool) → m ≡ true → pick t m true ≡ true
+kept t m h = pick-both (λ b. b ≡ true) t h refl
+
+-- each call leaves a seeded ledger seeded
+plan-seeded : (l : Ledger) (t : Timer) (c : PublicCall) → l .seeded ≡ true → Seeded (planCall l t c)
+unfolding planCall planEvent planInterrupt planWrite planSeed planRead planBlockingRead feed
+plan-seeded l t (event device now value) h = pick-both Seeded _ (record { seeded = h }) (pick-both Seeded _ (record { seeded = h }) (record { seeded = kept _ (l .seeded) h }))
+plan-seeded l t (interrupt now number) h = pick-both Seeded _ (record { seeded = h }) (record { seeded = kept _ (l .seeded) h })
+plan-seeded l t (write len) h = pick-both Seeded _ (record { seeded = h }) (record { seeded = h })
+plan-seeded l t (seed now len credit) h = pick-both Seeded _ (record { seeded = h }) (pick-both Seeded _ (record { seeded = h }) (record { seeded = kept _ (l .seeded) h }))
+plan-seeded l t (read now len) h = pick-both Seeded _ (record { seeded = h }) (pick-both Seeded _ (record { seeded = h }) (pick-both Seeded _ (record { seeded = h }) (record { seeded = kept _ (l .seeded) h })))
+plan-seeded l t (blockingRead len) h = pick-both Seeded _ (record { seeded = h }) (pick-both Seeded _ (record { seeded = h }) (pick-both Seeded _ (record { seeded = h }) (record { seeded = h })))
+
+-- a seeded keeper stays seeded
+pub seeded-stays : (v : View) (c : PublicCall) → v .ledger .seeded ≡ true → (stepView v c) .view .ledger .seeded ≡ true
+unfolding stepView planned decide
+seeded-stays v c h =
+    (pick-both Seeded (viewInRange v) (plan-seeded (v .ledger) (timerOf (v .clocks) (v .firsts) (v .seconds) (deviceOf c)) c h) (record { seeded = h })) .seeded

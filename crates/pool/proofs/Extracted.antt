@@ -1,0 +1,135 @@
+-- What a theorem about calls needs of a pool: how far its place moves, that its words stay as many, and how many bytes and
+-- compressions an extraction gives. Assumes nothing.
+use mathlib.Core.Path.{_≡_, refl, sym, ap, _∙_}
+use mathlib.Core.List.{List, [], _∷_, map}
+use Prim.Native.Nat.{ℕ, zero, suc, _*_}
+use native.Mathlib.Omega.{arith}
+use native.Mathlib.Nat.{mul-zero, mul-suc, add-comm}
+use lib.ListN.{length, take, drop, length-append, length-set}
+use lib.Seq.{length-take-le}
+use Rattle.words.specs.Bytes.{swapped, wordsBytes}
+use Rattle.words.proofs.Numbers.{length-wordsBytes}
+use Rattle.sha1.specs.Sha1.{initialHash, compressed}
+use Rattle.sha1.proofs.Lengths.{length-compressed, length-initial}
+use Rattle.ledger.specs.Shapes.{Shape}
+use Rattle.ledger.specs.Places.{moved, blocksOf, movedBlocks, extractedFrom}
+use Rattle.pool.specs.Mixing.{Pool, mixedWords, mixByte, mix}
+use Rattle.pool.specs.Extracting.{hashed, poolHash, folded, Extract, extractBlocks, extract}
+
+-- ---- mixing
+-- the place moves by the count of bytes
+pub mix-spot : (sh : Shape) (p : Pool) (bs : List ℕ) → (mix sh p bs) .spot ≡ moved sh (length bs) (p .spot)
+unfolding mix moved
+mix-spot sh p [] = refl
+mix-spot sh p (b ∷ bs) = mix-spot sh (mixByte sh p b) bs
+
+-- one byte keeps the count of words
+mixed-length : (sh : Shape) (i r b : ℕ) (ws : List ℕ) → length (mixedWords sh i r b ws) ≡ length ws
+unfolding mixedWords
+mixed-length sh i r b ws = length-set ws i _
+
+-- so do bytes
+pub mix-length : (sh : Shape) (p : Pool) (bs : List ℕ) → length ((mix sh p bs) .words) ≡ length (p .words)
+unfolding mix
+mix-length sh p [] = refl
+mix-length sh p (b ∷ bs) = mix-length sh (mixByte sh p b) bs ∙ mixed-length sh _ _ b (p .words)
+
+-- ---- the hash of a pool
+-- compressions keep five words
+hashed-length : (n : ℕ) (h ws : List ℕ) → length h ≡ 5 → length (hashed n h ws) ≡ 5
+unfolding hashed
+hashed-length zero h ws e = e
+hashed-length (suc n) h ws e = hashed-length n (compressed h (map swapped (take 16 ws))) (drop 16 ws) (length-compressed h _ e)
+
+-- a hash has five words
+pub hash-length : (sh : Shape) (p : Pool) → length (poolHash sh p) ≡ 5
+unfolding poolHash
+hash-length sh p = hashed-length (sh .rounds) initialHash (p .words) length-initial
+
+-- they are mixed back as 20 bytes
+pub hash-bytes : (sh : Shape) (p : Pool) → length (wordsBytes (poolHash sh p)) ≡ 20
+hash-bytes sh p = length-wordsBytes (poolHash sh p) ∙ ap (λ (n : ℕ). 4 * n) (hash-length sh p)
+
+-- the first ten bytes of three words
+ten : (a b c : ℕ) → length (take 10 (wordsBytes (a ∷ b ∷ c ∷ []))) ≡ 10
+ten a b c = length-take-le 10 (wordsBytes (a ∷ b ∷ c ∷ [])) (omega (arith, length-wordsBytes (a ∷ b ∷ c ∷ [])))
+
+-- a hash is folded to ten bytes
+pub folded-length : (h : List ℕ) → length (folded h) ≡ 10
+unfolding folded
+folded-length h = ten _ _ _
+
+-- ---- blocks of an extraction
+-- each moves the place by 20 bytes
+blocks-spot : (sh : Shape) (n : ℕ) (p : Pool) → (extractBlocks sh n p) .pool .spot ≡ movedBlocks sh n (p .spot)
+unfolding extractBlocks movedBlocks
+blocks-spot sh zero p = refl
+blocks-spot sh (suc n) p =
+    let bs = wordsBytes (poolHash sh p) in
+    let back : (mix sh p bs) .spot ≡ moved sh 20 (p .spot) = mix-spot sh p bs ∙ ap (λ (m : ℕ). moved sh m (p .spot)) (hash-bytes sh p) in
+    blocks-spot sh n (mix sh p bs) ∙ ap (movedBlocks sh n) back
+
+-- they keep the count of words
+blocks-words : (sh : Shape) (n : ℕ) (p : Pool) → length ((extractBlocks sh n p) .pool .words) ≡ length (p .words)
+unfolding extractBlocks
+blocks-words sh zero p = refl
+blocks-words sh (suc n) p =
+    let bs = wordsBytes (poolHash sh p) in
+    blocks-words sh n (mix sh p bs) ∙ mix-length sh p bs
+
+-- ten bytes for each
+blocks-length : (sh : Shape) (n : ℕ) (p : Pool) → length ((extractBlocks sh n p) .bytes) ≡ 10 * n
+unfolding extractBlocks
+blocks-length sh zero p = refl
+blocks-length sh (suc n) p =
+    simp length-append (omega (arith, folded-length (poolHash sh p), blocks-length sh n (mix sh p (wordsBytes (poolHash sh p)))))
+
+-- the shape's compressions for each
+blocks-runs : (sh : Shape) (n : ℕ) (p : Pool) → (extractBlocks sh n p) .runs ≡ sh .rounds * n
+unfolding extractBlocks
+blocks-runs sh zero p = sym (mul-zero (sh .rounds))
+blocks-runs sh (suc n) p = rw (blocks-runs sh n) (add-comm (sh .rounds) (sh .rounds * n) ∙ sym (mul-suc (sh .rounds) n))
+
+-- ---- an extraction of k bytes
+-- the place moves by 20 bytes for each block
+pub extract-spot : (sh : Shape) (k : ℕ) (p : Pool) → (extract sh k p) .pool .spot ≡ extractedFrom sh k (p .spot)
+extract-spot sh k p = blocks-spot sh (blocksOf k) p
+
+-- the count of words stays
+pub extract-words-length : (sh : Shape) (k : ℕ) (p : Pool) → length ((extract sh k p) .pool .words) ≡ length (p .words)
+extract-words-length sh k p = blocks-words sh (blocksOf k) p
+
+-- k bytes are handed over
+pub extract-length : (sh : Shape) (k : ℕ) (p : Pool) → length ((extract sh k p) .bytes) ≡ k
+extract-length sh k p = length-take-le k ((extractBlocks sh (blocksOf k) p) .bytes) (omega (arith, blocks-length sh (blocksOf k) p))
+
+-- the shape's compressions were run for each block
+pub extract-runs : (sh : Shape) (k : ℕ) (p : Pool) → (extract sh k p) .runs ≡ sh .rounds * blocksOf k
+extract-runs sh k p = blocks-runs sh (blocksOf k) p
+
+-- ---- the laws together, of any way to mix bytes in and to take bytes out: a pool of another kind is another value of this record
+pub record LawsOf (sh : Shape) (mixes : Pool → List ℕ → Pool) (takes : ℕ → Pool → Extract) : Type 0 where
+  -- bytes mixed in move the place by their count, and keep the count of words
+  pub mix-spot : (p : Pool) (bs : List ℕ) → (mixes p bs) .spot ≡ moved sh (length bs) (p .spot)
+  pub mix-length : (p : Pool) (bs : List ℕ) → length ((mixes p bs) .words) ≡ length (p .words)
+  -- so do k bytes taken out; they are k, and their blocks are paid in compressions
+  pub extract-spot : (k : ℕ) (p : Pool) → (takes k p) .pool .spot ≡ extractedFrom sh k (p .spot)
+  pub extract-words-length : (k : ℕ) (p : Pool) → length ((takes k p) .pool .words) ≡ length (p .words)
+  pub extract-length : (k : ℕ) (p : Pool) → length ((takes k p) .bytes) ≡ k
+  pub extract-runs : (k : ℕ) (p : Pool) → (takes k p) .runs ≡ sh .rounds * blocksOf k
+
+-- those of the pools of specs/
+abbrev pub PoolLaws : Shape → Type 0
+PoolLaws sh = LawsOf sh (mix sh) (extract sh)
+
+-- all of them, for every shape
+pub laws : (sh : Shape) → PoolLaws sh
+laws sh =
+    record {
+      mix-spot = mix-spot sh;
+      mix-length = mix-length sh;
+      extract-spot = extract-spot sh;
+      extract-words-length = extract-words-length sh;
+      extract-length = extract-length sh;
+      extract-runs = extract-runs sh;
+    }

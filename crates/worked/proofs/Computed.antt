@@ -1,0 +1,133 @@
+-- The definitions compute. One whole call of each kind, worked out by the checker from the definitions alone, gives the numbers that
+-- were worked out beside them from the paper and, for the generator, those that RFC 7539 publishes in section 2.3.2. Assumes nothing.
+use mathlib.Core.Path.{_≡_, refl}
+use mathlib.Core.Bool.{Bool, true, false}
+use mathlib.Core.List.{List, [], _∷_, _++_, zipWith, reverse}
+use Prim.Native.Nat.{ℕ, zero, suc, _+_, _*_}
+use lib.ListN.{take, drop, replicate, getD}
+use Rattle.words.specs.Words.{rotl}
+use Rattle.words.specs.Bytes.{leBytes, leNumber, swapped, wordsBytes, bytesWords}
+use Rattle.chacha.specs.Chacha.{line, quarterRound, innerBlock, rounds, chachaBlock}
+use Rattle.sha1.specs.Sha1.{ch, parity, maj, mix as Sha1·mix, constant, initialHash, nextWord, schedule, step, run, compressed}
+use Rattle.ledger.specs.Choice.{pick}
+use Rattle.ledger.specs.Places.{moved, movedBlocks}
+use Rattle.ledger.specs.Credits.{further, credited, taken}
+use Rattle.ledger.specs.Clocks.{signed, log2, estimate, eventBits}
+use Rattle.ledger.specs.Marks.{inputCount, blockingCount, withCounts, seededAt}
+use Rattle.ledger.specs.Range.{ledgerInRange, inRange, fixedWords}
+use Rattle.pool.specs.Mixing.{twisted, tapped, mixedWords, mix}
+use Rattle.pool.specs.Extracting.{hashed, poolHash, folded, extractBlocks}
+use Rattle.keeper.specs.FastPool.{stirred}
+use Rattle.keeper.specs.Generator.{xorAt, counted, stream, generated}
+use Rattle.keeper.specs.Record.{fresh, withLedger, withInput, withBlocking, withGenerator, Outcome}
+use Rattle.keeper.specs.Calls.{Call, deviceEvent, interrupted, written, seededWith, generatorRead, blockingReadOf}
+use Rattle.keeper.specs.Narrative.{reseed, creditInput, eventCall, interruptCall, writeCall, seedCall, generate, readCall, transfer, deliver, blockingCall, act, told}
+use Rattle.keeper.specs.declared.Keeper.{Keeper}
+use Rattle.keeper.specs.declared.Answer.{Answer}
+
+abbrev zero48 : Keeper
+zero48 = fresh (replicate 48 0)
+
+-- number, delivered, ChaCha20 blocks, compressions, input count, blocking count, input position and rotation
+abbrev line8 : Outcome → List ℕ
+line8 o =
+    o .answer .number ∷ o .answer .delivered ∷ o .answer .blocks ∷ o .answer .compressions ∷ inputCount (o .keeper .ledger) ∷ blockingCount (o .keeper .ledger)
+    ∷ o .keeper .ledger .«input_spot» .at ∷ o .keeper .ledger .«input_spot» .turn ∷ []
+
+-- a device event: 16 bytes mixed, 10 bits, 60 units
+pub event-computes :
+    (line8 (told zero48 (deviceEvent 1 1024 0x0123456789abcdef 7))) ∷ (drop 112 ((told zero48 (deviceEvent 1 1024 0x0123456789abcdef 7)) .keeper .input)) ∷ []
+    ≡ (0 ∷ 0 ∷ 0 ∷ 0 ∷ 60 ∷ 0 ∷ 112 ∷ 16 ∷ []) ∷ (0x45263c25 ∷ 0x44a2ebeb ∷ 0x4884559b ∷ 0x29b1a61b ∷ 0x968c3699 ∷ 0x6f47a14e ∷ 0xccdf06f2 ∷ 0xd04d28d7
+    ∷ 0x34dc59fd ∷ 0x7d91c9a9 ∷ 0x5a6ccdca ∷ 0xbef566bb ∷ 0x87fc2619 ∷ 0xf5e7254e ∷ 0xc2d7f374 ∷ 0xa00ae265 ∷ []) ∷ []
+unfolding told inRange ledgerInRange act eventCall creditInput eventBits estimate log2 signed credited further mix mixedWords tapped twisted rotl leBytes pick
+event-computes = refl
+
+-- an interrupt that only stirs
+pub interrupt-computes :
+    (line8 (told zero48 (interrupted 5 9 0x0123456789abcdef 0xfedcba9876543210))) ∷ ((told zero48 (interrupted 5 9 0x0123456789abcdef 0xfedcba9876543210)) .keeper .fast) ∷ []
+    ≡ (0 ∷ 0 ∷ 0 ∷ 0 ∷ 0 ∷ 0 ∷ 0 ∷ 0 ∷ []) ∷ (0x2628c4f4 ∷ 0x5c023703 ∷ 0x42ddd036 ∷ 0xe005f622 ∷ []) ∷ []
+unfolding told inRange ledgerInRange act interruptCall stirred signed rotl pick
+interrupt-computes = refl
+
+-- a write of three bytes
+pub write-computes :
+    (line8 (told zero48 (written (1 ∷ 2 ∷ 255 ∷ [])))) ∷ (drop 125 ((told zero48 (written (1 ∷ 2 ∷ 255 ∷ []))) .keeper .input)) ∷ []
+    ≡ (0 ∷ 0 ∷ 0 ∷ 0 ∷ 0 ∷ 0 ∷ 125 ∷ 21 ∷ []) ∷ (0x3b84604f ∷ 0x076dc439 ∷ 0x3b6e20c8 ∷ []) ∷ []
+unfolding told inRange ledgerInRange act writeCall mix mixedWords tapped twisted rotl pick
+write-computes = refl
+
+-- a seed of the same bytes, with all their 24 bits
+pub seed-computes :
+    (line8 (told zero48 (seededWith 0 (1 ∷ 2 ∷ 255 ∷ []) 24))) ∷ (drop 125 ((told zero48 (seededWith 0 (1 ∷ 2 ∷ 255 ∷ []) 24)) .keeper .input)) ∷ []
+    ≡ (0 ∷ 0 ∷ 0 ∷ 0 ∷ 144 ∷ 0 ∷ 125 ∷ 21 ∷ []) ∷ (0x3b84604f ∷ 0x076dc439 ∷ 0x3b6e20c8 ∷ []) ∷ []
+unfolding told inRange ledgerInRange act seedCall creditInput credited further mix mixedWords tapped twisted rotl pick
+seed-computes = refl
+
+-- a seed of 22 bytes with 171 bits, which seeds the keeper: 16 bytes taken, 16 compressions, 2 units left, four words of the key changed
+abbrev seeding : Outcome
+seeding = told zero48 (seededWith 9 (0 ∷ 1 ∷ 2 ∷ 3 ∷ 4 ∷ 5 ∷ 6 ∷ 7 ∷ 8 ∷ 9 ∷ 10 ∷ 11 ∷ 12 ∷ 13 ∷ 14 ∷ 15 ∷ 16 ∷ 17 ∷ 18 ∷ 19 ∷ 20 ∷ 21 ∷ []) 171)
+
+pub seeding-computes :
+    (line8 seeding) ∷ (take 5 (drop 4 (seeding .keeper .generator))) ∷ (seeding .keeper .ledger .«seeding_clock» ∷ []) ∷ []
+    ≡ (0 ∷ 0 ∷ 0 ∷ 16 ∷ 2 ∷ 0 ∷ 66 ∷ 18 ∷ []) ∷ (0x041192b6 ∷ 0xbf685517 ∷ 0xcbfa167e ∷ 0xdd01c9c1 ∷ 0 ∷ []) ∷ (9 ∷ []) ∷ []
+unfolding told inRange ledgerInRange act seedCall creditInput reseed taken credited further extractBlocks poolHash hashed folded compressed initialHash run step schedule nextWord constant Sha1·mix ch parity maj swapped leNumber leBytes wordsBytes bytesWords xorAt mix mixedWords tapped twisted rotl zipWith pick
+seeding-computes = refl
+
+-- a generator read of 32 bytes from the state of RFC 7539, section 2.3.2: the block's first half is handed out, its second half is
+-- xored onto the key, and the counter moves on by one
+abbrev rfc : Keeper
+rfc =
+    withGenerator
+    (fixedWords ++ (0x03020100 ∷ 0x07060504 ∷ 0x0b0a0908 ∷ 0x0f0e0d0c ∷ 0x13121110 ∷ 0x17161514 ∷ 0x1b1a1918 ∷ 0x1f1e1d1c
+    ∷ 0x00000001 ∷ 0x09000000 ∷ 0x4a000000 ∷ 0x00000000 ∷ []))
+    (withLedger (seededAt 0 (zero48 .ledger)) zero48)
+
+abbrev read32 : Outcome
+read32 = told rfc (generatorRead 0 32)
+
+pub read-computes :
+    (line8 read32) ∷ (read32 .bytes) ∷ (drop 4 (read32 .keeper .generator)) ∷ []
+    ≡ (0 ∷ 32 ∷ 1 ∷ 0 ∷ 0 ∷ 0 ∷ 0 ∷ 0 ∷ []) ∷ (0x10 ∷ 0xf1 ∷ 0xe7 ∷ 0xe4 ∷ 0xd1 ∷ 0x3b ∷ 0x59 ∷ 0x15 ∷ 0x50 ∷ 0x0f ∷ 0xdd ∷ 0x1f ∷ 0xa3 ∷ 0x20 ∷ 0x71 ∷ 0xc4
+    ∷ 0xc7 ∷ 0xd1 ∷ 0xf4 ∷ 0xc7 ∷ 0x33 ∷ 0xc0 ∷ 0x68 ∷ 0x03 ∷ 0x04 ∷ 0x22 ∷ 0xaa ∷ 0x9a ∷ 0xc3 ∷ 0xd4 ∷ 0x6c ∷ 0x4e ∷ []) ∷ (0x456683d2 ∷ 0x0eac9a03 ∷ 0x0eddcb1c ∷ 0xad0c86d5 ∷ 0xc28e03a5 ∷ 0xae5803ca ∷ 0xf399c9d3 ∷ 0x51224dbe
+    ∷ 0x00000002 ∷ 0x09000000 ∷ 0x4a000000 ∷ 0x00000000 ∷ []) ∷ []
+unfolding told inRange ledgerInRange act readCall generate generated stream counted xorAt bytesWords leNumber wordsBytes leBytes chachaBlock rounds innerBlock quarterRound line rotl zipWith signed pick
+read-computes = refl
+
+-- a blocking read of 10 bytes from a pool that has them: one extraction block, two compressions, 20 bytes mixed back
+abbrev filled : Keeper
+filled =
+    withLedger (withCounts 0 640 (zero48 .ledger))
+    (withBlocking
+    (record {
+      words = 1 ∷ 2 ∷ 3 ∷ 4 ∷ 5 ∷ 6 ∷ 7 ∷ 8 ∷ 9 ∷ 10 ∷ 11 ∷ 12 ∷ 13 ∷ 14 ∷ 15 ∷ 16 ∷ 17 ∷ 18 ∷ 19 ∷ 20 ∷ 21 ∷ 22 ∷ 23 ∷ 24 ∷ 25 ∷ 26 ∷ 27 ∷ 28 ∷ 29 ∷ 30 ∷ 31 ∷ 32 ∷ [];
+      spot = record { at = 0; turn = 0 };
+    })
+    zero48)
+
+abbrev drawn : Outcome
+drawn = told filled (blockingReadOf 10)
+
+pub blocking-computes :
+    (line8 drawn) ∷ (drawn .bytes) ∷ (drop 12 (drawn .keeper .blocking)) ∷ []
+    ≡ (0 ∷ 10 ∷ 0 ∷ 2 ∷ 0 ∷ 0 ∷ 0 ∷ 0 ∷ []) ∷ (0x53 ∷ 0x02 ∷ 0xa3 ∷ 0x67 ∷ 0x07 ∷ 0x2d ∷ 0x6f ∷ 0xfb ∷ 0x7c ∷ 0x11 ∷ []) ∷ (0x503a4bed ∷ 0xb491b84e ∷ 0x90764e75 ∷ 0x8c7cfff7 ∷ 0x99af293e ∷ 0x68621202 ∷ 0xdf9dc7ca ∷ 0xb4b4aae5 ∷ 0x3a4a5e8e ∷ 0x07de9375
+    ∷ 0x89c2858b ∷ 0x3d557f23 ∷ 0x5cb31817 ∷ 0xfeef8bee ∷ 0x9ab81a7e ∷ 0x0ee6c155 ∷ 0xb7360aa8 ∷ 0xa8674692 ∷ 0x4369e749 ∷ 0x76dc4194 ∷ []) ∷ []
+unfolding told inRange ledgerInRange act blockingCall deliver transfer taken credited further extractBlocks poolHash hashed folded compressed initialHash run step schedule nextWord constant Sha1·mix ch parity maj swapped leNumber leBytes wordsBytes mix mixedWords tapped twisted rotl zipWith pick
+blocking-computes = refl
+
+-- a blocking read of 3 bytes that has to fetch: 8 bytes come over from the input pool (8 compressions), 393 units then stand in the
+-- blocking pool, and 3 bytes of it are handed out (2 compressions)
+abbrev sevens : ℕ → List ℕ
+sevens zero = []
+sevens (suc n) = sevens n ++ ((7 * n + 1) ∷ [])
+
+abbrev lean : Keeper
+lean = withLedger (withCounts 512 10 (zero48 .ledger)) (withInput (record { words = sevens 128; spot = record { at = 0; turn = 0 } }) zero48)
+
+abbrev fetched : Outcome
+fetched = told lean (blockingReadOf 3)
+
+pub fetch-computes :
+    (line8 fetched) ∷ (fetched .bytes) ∷ (fetched .keeper .ledger .«blocking_spot» .at ∷ fetched .keeper .ledger .«blocking_spot» .turn ∷ []) ∷ []
+    ≡ (0 ∷ 3 ∷ 0 ∷ 10 ∷ 0 ∷ 201 ∷ 108 ∷ 12 ∷ []) ∷ (0xb8 ∷ 0x1e ∷ 0x86 ∷ []) ∷ (4 ∷ 4 ∷ []) ∷ []
+unfolding told inRange ledgerInRange act blockingCall deliver transfer taken credited further extractBlocks poolHash hashed folded compressed initialHash run step schedule nextWord constant Sha1·mix ch parity maj swapped leNumber leBytes wordsBytes mix mixedWords tapped twisted rotl zipWith pick
+fetch-computes = refl
