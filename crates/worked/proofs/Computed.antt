@@ -127,7 +127,8 @@ abbrev fetched : Outcome
 fetched = told lean (blockingReadOf 3)
 
 pub fetch-computes :
-    (line8 fetched) ∷ (fetched .bytes) ∷ (fetched .keeper .ledger .«blocking_spot» .at ∷ fetched .keeper .ledger .«blocking_spot» .turn ∷ []) ∷ []
-    ≡ (0 ∷ 3 ∷ 0 ∷ 10 ∷ 0 ∷ 201 ∷ 108 ∷ 12 ∷ []) ∷ (0xb8 ∷ 0x1e ∷ 0x86 ∷ []) ∷ (4 ∷ 4 ∷ []) ∷ []
+    (line8 fetched) ∷ (fetched .bytes) ∷ (fetched .keeper .ledger .«blocking_spot» .at ∷ fetched .keeper .ledger .«blocking_spot» .turn ∷ []) ∷ (drop 108 (fetched .keeper .input)) ∷ []
+    ≡ (0 ∷ 3 ∷ 0 ∷ 10 ∷ 0 ∷ 201 ∷ 108 ∷ 12 ∷ []) ∷ (0xb8 ∷ 0x1e ∷ 0x86 ∷ []) ∷ (4 ∷ 4 ∷ [])
+    ∷ (0x0a08dc30 ∷ 0x5046f02f ∷ 0x2fa48a56 ∷ 0xe8d554e4 ∷ 0x2b60be04 ∷ 0x8075360a ∷ 0xd88fa638 ∷ 0x1ac82f17 ∷ 0xd6c17904 ∷ 0x00a7d642 ∷ 0x053e929a ∷ 0xa9f495e8 ∷ 0x0cf3bddf ∷ 0x6763ef9b ∷ 0x8dfed90c ∷ 0xb4d0dab7 ∷ 0x66d1c7ad ∷ 0x858c3015 ∷ 0xf762574c ∷ 0xd6d6a3a1 ∷ []) ∷ []
 unfolding told inRange ledgerInRange act blockingCall deliver transfer taken credited further extractBlocks poolHash hashed folded compressed initialHash run step schedule nextWord constant Sha1·mix ch parity maj swapped leNumber leBytes wordsBytes mix mixedWords tapped twisted rotl zipWith pick
 fetch-computes = refl
