@@ -15,7 +15,8 @@ use Rattle.ledger.specs.Credits.{credited, taken, debited, reseedTakes}
 use Rattle.ledger.specs.Clocks.{nextTimer, eventBits}
 use Rattle.ledger.specs.Marks.{inputCount, blockingCount, blockingSpot, withCounts, withSpots, valued, tallied, spilled, stays, reseedDue}
 use Rattle.ledger.specs.PublicCalls.{deviceOf}
-use Rattle.ledger.specs.Plans.{freshTimer, planOf, rest, firstSeeding, reseeding, feed, keeping, planEvent, planInterrupt, planWrite, planSeed, planRead, transferred, refilled, planBlockingRead, planCall, decide}
+use Rattle.ledger.specs.Plans.{freshTimer, planOf, rest, firstSeeding, reseeding, feed, keeping, planEvent, planInterrupt, planWrite, planSeed, planRead, transferred, refilled, planBlockingRead, planCall}
+use Rattle.ledger.proofs.InRange.{plan-at-is}
 use Rattle.ledger.specs.declared.Ledger.{Ledger}
 use Rattle.ledger.specs.declared.Timer.{Timer}
 use Rattle.ledger.specs.declared.Plan.{Plan}
@@ -243,7 +244,7 @@ same-act k (seededWith now bs credit) = same-seed now bs credit k
 same-act k (generatorRead now len) = same-read now len k
 same-act k (blockingReadOf n) = same-blocking n k
 
--- THE THEOREM
+-- THE THEOREM. The plan tests the ledger and one timer beside the rest of the record, which is the whole test.
 pub same : (k : Keeper) (c : Call) → told k c ≡ step k c
-unfolding told step decide
-same k c = obey-pick c _ _ _ k (same-act k c) (rests 17 c k)
+unfolding told step
+same k c = obey-pick c _ _ _ k (same-act k c) (rests 17 c k) ∙ ap (λ (p : Plan). obey c p k) (sym (plan-at-is (view k) (public c)))

@@ -18,7 +18,7 @@ use Rattle.ledger.specs.declared.Ledger.{Ledger}
 use Rattle.ledger.specs.declared.Timer.{Timer}
 use Rattle.ledger.proofs.Picks.{and-left, and-right, both}
 use Rattle.ledger.proofs.Crediting.{further-grows, credited-grows}
-use Rattle.ledger.proofs.InRange.{Fine, fine-in-range}
+use Rattle.ledger.proofs.InRange.{Fine, fine-in-range, plan-at-is}
 
 -- both thresholds are missed
 abbrev pub Low : Ledger → Type 0
@@ -107,15 +107,10 @@ refused-only-if n l h k r = go (blocks l) refl
     go true e = blocks-low l e
     go false e = let z = (unblocked n l h k e) .0 in absurd (omega arith)
 
--- on a record in range, a blocking read is decided by that plan ..
-pub decided : (n : ℕ) (l : Ledger) (t : Timer) → decide true l t (blockingRead n) ≡ planBlockingRead n l
-unfolding decide pick planCall
-decided n l t = refl
-
--- .. and shows that plan's number, and delivers what it says
+-- on a record in range, a blocking read shows that plan's number, and delivers what it says
 pub shown : (n : ℕ) (v : View) → Fine v → ((stepView v (blockingRead n)) .number ≡ (planBlockingRead n (v .ledger)) .number) × ((planBlockingRead n (v .ledger)) .deliver ≤ (stepView v (blockingRead n)) .delivered)
-unfolding stepView planned decide pick planCall
-shown n v f = rw (fine-in-range v f) (refl, omega arith)
+unfolding stepView planned pick planCall
+shown n v f = rw (plan-at-is v (blockingRead n), fine-in-range v f) (refl, omega arith)
 
 -- the paper's sentence, of a keeper in range: refused with 1 exactly if both thresholds are missed
 pub blocking-exact : (n : ℕ) (v : View) → 1 ≤ n → n ≤ 4096 → Fine v → ((stepView v (blockingRead n)) .number ≡ 1) ↔ Low (v .ledger)

@@ -14,7 +14,7 @@ use Rattle.ledger.specs.Shapes.{Shape, inputShape, blockingShape}
 use Rattle.ledger.specs.Places.{stepped, moved, movedBlocks, blocksOf}
 use Rattle.ledger.specs.Clocks.{signed, clockDiff}
 use Rattle.ledger.specs.Marks.{inputCount, blockingCount, inputSpot, blockingSpot, valued, tallied, spilled, stays}
-use Rattle.ledger.specs.Range.{poolInRange, within, firstInRange, secondInRange, every, fixedWords, sameWords, ledgerInRange, inRange}
+use Rattle.ledger.specs.Range.{restInRange, timerInRange, poolInRange, within, firstInRange, secondInRange, every, fixedWords, sameWords, ledgerInRange, inRange}
 use Rattle.ledger.specs.PublicCalls.{PublicCall, event, interrupt, write, seed, read, blockingRead, brings, deviceOf}
 use Rattle.ledger.specs.Plans.{planOf, rest, feed, transferred, planEvent, planInterrupt, planWrite, planSeed, planRead, planBlockingRead, planCall, decide}
 use Rattle.ledger.specs.Machine.{View, freshView, timerOf, inputMoved, blockingMoved, planned, planAt, stepView}
@@ -74,7 +74,7 @@ viewInRange v = inRange (v .ledger) (v .firsts) (v .seconds) (v .fixed)
 
 -- a view that passes the range test is fine
 pub fine : (v : View) → viewInRange v ≡ true → Fine v
-unfolding inRange ledgerInRange
+unfolding inRange restInRange ledgerInRange
 fine v h =
     let l = v .ledger in
     let i = poolInRange inputShape (inputCount l) (inputSpot l) in
@@ -101,7 +101,7 @@ fine v h =
 
 -- a view that is fine passes the range test
 pub fine-in-range : (v : View) → Fine v → viewInRange v ≡ true
-unfolding inRange ledgerInRange
+unfolding inRange restInRange ledgerInRange
 fine-in-range v f =
     let l = v .ledger in
     let i = poolInRange inputShape (inputCount l) (inputSpot l) in
@@ -288,8 +288,37 @@ step-fine v c f =
 
 -- the fresh view is fine
 pub fresh-fine : Fine freshView
-unfolding inRange ledgerInRange
+unfolding inRange restInRange ledgerInRange
 fresh-fine = fine freshView refl
+
+-- ---- the test that a plan makes is the whole test
+-- where the rest of the record is in range, so is each of its timers
+agree : (r l t : Bool) → (r ≡ true → t ≡ true) → (r && (l && t)) ≡ (l && r)
+agree true true t h = h refl
+agree true false t h = refl
+agree false true t h = refl
+agree false false t h = refl
+
+timer-fine : (v : View) (device : ℕ) → restInRange (v .firsts) (v .seconds) (v .fixed) ≡ true → timerInRange (timerOf (v .clocks) (v .firsts) (v .seconds) device) ≡ true
+unfolding restInRange
+timer-fine v device h =
+    let d = every firstInRange (v .firsts) in
+    let e = every secondInRange (v .seconds) in
+    let w = sameWords (v .fixed) fixedWords in
+    both (firstInRange (getD (v .firsts) device (pos 0))) (secondInRange (getD (v .seconds) device (pos 0)))
+    (every-at firstInRange (v .firsts) device (pos 0) (and-left d (e && w) h) refl)
+    (every-at secondInRange (v .seconds) device (pos 0) (and-left e w (and-right d (e && w) h)) refl)
+
+pub seen-range : (v : View) (device : ℕ)
+    → (restInRange (v .firsts) (v .seconds) (v .fixed) && (ledgerInRange (v .ledger) && timerInRange (timerOf (v .clocks) (v .firsts) (v .seconds) device))) ≡ viewInRange v
+unfolding inRange
+seen-range v device =
+    agree (restInRange (v .firsts) (v .seconds) (v .fixed)) (ledgerInRange (v .ledger)) (timerInRange (timerOf (v .clocks) (v .firsts) (v .seconds) device)) (timer-fine v device)
+
+pub plan-at-is : (v : View) (c : PublicCall)
+    → planAt v c ≡ pick (viewInRange v) (planCall (v .ledger) (timerOf (v .clocks) (v .firsts) (v .seconds) (deviceOf c)) c) (rest 17 (v .ledger))
+unfolding decide
+plan-at-is v c = rw (seen-range v (deviceOf c))
 
 -- ---- no call is answered 17
 -- a call's own numbers are 0 to 7
@@ -310,13 +339,13 @@ plan-low l t (blockingRead len) =
 
 -- in range, the answer is at most 7
 pub fine-low : (v : View) (c : PublicCall) → Fine v → (stepView v c) .number ≤ 7
-unfolding stepView planned decide pick
-fine-low v c f = rw (fine-in-range v f) ((plan-low (v .ledger) (timerOf (v .clocks) (v .firsts) (v .seconds) (deviceOf c)) c) .low)
+unfolding stepView planned pick
+fine-low v c f = rw (plan-at-is v c, fine-in-range v f) ((plan-low (v .ledger) (timerOf (v .clocks) (v .firsts) (v .seconds) (deviceOf c)) c) .low)
 
 -- out of range, every call is answered 17
 pub out-of-range : (v : View) (c : PublicCall) → viewInRange v ≡ false → (stepView v c) .number ≡ 17
-unfolding stepView planned decide pick
-out-of-range v c h = rw h refl
+unfolding stepView planned pick
+out-of-range v c h = rw (plan-at-is v c, h) refl
 
 -- the view after a list of calls
 unfoldable pub viewAfter : View → List PublicCall → View

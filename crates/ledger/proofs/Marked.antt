@@ -11,7 +11,7 @@ use Rattle.ledger.specs.Places.{moved, movedBlocks}
 use Rattle.ledger.specs.Credits.{turnTakes, turnAdds, further, credited, taken}
 use Rattle.ledger.specs.Clocks.{signed, clockDiff, log2, estimate, eventBits}
 use Rattle.ledger.specs.Marks.{inputCount, blockingCount}
-use Rattle.ledger.specs.Range.{fixedWords, ledgerInRange, inRange}
+use Rattle.ledger.specs.Range.{fixedWords, ledgerInRange, restInRange}
 use Rattle.ledger.specs.PublicCalls.{PublicCall, event, interrupt, write, seed, read, blockingRead}
 use Rattle.ledger.specs.Plans.{firstSeeding, feed, planEvent, planInterrupt, planWrite, planSeed, planRead, planBlockingRead, planCall, decide}
 use Rattle.ledger.specs.Machine.{View, Shown, freshView, inputMoved, blockingMoved, planned, planAt, stepView}
@@ -159,5 +159,5 @@ table =
 
 -- in every row, what the definitions give is what it has to be
 pub marked : map (λ (row : Side × Side). row .0) table ≡ map (λ (row : Side × Side). row .1) table
-unfolding pick signed log2 estimate eventBits further credited taken ledgerInRange inRange moved movedBlocks firstSeeding feed planEvent planInterrupt planWrite planSeed planRead planBlockingRead planCall decide inputMoved blockingMoved planned stepView viewAfter linesFrom
+unfolding pick signed log2 estimate eventBits further credited taken ledgerInRange restInRange moved movedBlocks firstSeeding feed planEvent planInterrupt planWrite planSeed planRead planBlockingRead planCall decide inputMoved blockingMoved planned stepView viewAfter linesFrom
 marked = refl

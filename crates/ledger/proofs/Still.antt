@@ -8,6 +8,7 @@ use lib.Dec.{ltb}
 use borrow.Author.Tests.{ltb-false}
 use Rattle.ledger.specs.Choice.{pick}
 use Rattle.ledger.specs.Places.{moved, movedBlocks}
+use Rattle.ledger.specs.Range.{restInRange}
 use Rattle.ledger.specs.PublicCalls.{PublicCall, event, interrupt, write, seed, read, blockingRead, deviceOf}
 use Rattle.ledger.specs.Plans.{rest, feed, transferred, refilled, planEvent, planInterrupt, planWrite, planSeed, planRead, planBlockingRead, planCall, decide}
 use Rattle.ledger.specs.Machine.{View, Shown, timerOf, inputMoved, blockingMoved, planned, planAt, stepView}
@@ -16,7 +17,6 @@ use Rattle.ledger.specs.declared.Plan.{Plan}
 use Rattle.ledger.specs.declared.Timer.{Timer}
 use Rattle.ledger.proofs.Picks.{pick-both, pick-by}
 use Rattle.ledger.proofs.Crediting.{taken-wanted}
-use Rattle.ledger.proofs.InRange.{viewInRange}
 
 -- ---- refusals
 -- a plan that answers 0, or does nothing
@@ -35,9 +35,9 @@ plan-still l t (read now len) = pick-both (Still l) _ (rests refl) (pick-both (S
 plan-still l t (blockingRead len) = pick-both (Still l) _ (rests refl) (pick-both (Still l) _ (rests refl) (pick-both (Still l) _ (rests refl) (answers refl)))
 
 -- in range or not
-decide-still : (fine : Bool) (l : Ledger) (t : Timer) (c : PublicCall) → Still l (decide fine l t c)
+decide-still : (others : Bool) (l : Ledger) (t : Timer) (c : PublicCall) → Still l (decide others l t c)
 unfolding decide
-decide-still fine l t c = pick-both (Still l) fine (plan-still l t c) (rests refl)
+decide-still others l t c = pick-both (Still l) _ (plan-still l t c) (rests refl)
 
 -- an answer n that shows a view as it was, and no work
 abbrev pub unmoved : ℕ → View → Shown
@@ -51,7 +51,7 @@ rest-unmoved n c v = refl
 -- a call that is not answered 0 shows the view as it was
 pub refused : (v : View) (c : PublicCall) → ((stepView v c) .number ≡ 0 → ⊥) → stepView v c ≡ unmoved ((stepView v c) .number) v
 unfolding stepView planned
-refused v c h = go (decide-still (viewInRange v) (v .ledger) (timerOf (v .clocks) (v .firsts) (v .seconds) (deviceOf c)) c)
+refused v c h = go (decide-still (restInRange (v .firsts) (v .seconds) (v .fixed)) (v .ledger) (timerOf (v .clocks) (v .firsts) (v .seconds) (deviceOf c)) c)
   where
     go : Still (v .ledger) (planAt v c) → planned c (planAt v c) v ≡ unmoved ((planAt v c) .number) v
     go (answers e) = absurd (h e)
@@ -107,7 +107,7 @@ plan-asked l t (blockingRead len) = blocking-asked len l
 pub delivered-fits : (v : View) (c : PublicCall) → ((stepView v c) .delivered ≤ asked c) × ((stepView v c) .delivered ≤ 4096)
 unfolding stepView planned decide
 delivered-fits v c =
-    let b = pick-both (AtMost (asked c)) (viewInRange v) (plan-asked (v .ledger) (timerOf (v .clocks) (v .firsts) (v .seconds) (deviceOf c)) c) (none (asked c) 17 (v .ledger)) in
+    let b = pick-both (AtMost (asked c)) _ (plan-asked (v .ledger) (timerOf (v .clocks) (v .firsts) (v .seconds) (deviceOf c)) c) (none (asked c) 17 (v .ledger)) in
     (b .asked, b .limit)
 
 -- ---- seeded for good
@@ -133,4 +133,4 @@ plan-seeded l t (blockingRead len) h = pick-both Seeded _ (record { seeded = h }
 pub seeded-stays : (v : View) (c : PublicCall) → v .ledger .seeded ≡ true → (stepView v c) .view .ledger .seeded ≡ true
 unfolding stepView planned decide
 seeded-stays v c h =
-    (pick-both Seeded (viewInRange v) (plan-seeded (v .ledger) (timerOf (v .clocks) (v .firsts) (v .seconds) (deviceOf c)) c h) (record { seeded = h })) .seeded
+    (pick-both Seeded _ (plan-seeded (v .ledger) (timerOf (v .clocks) (v .firsts) (v .seconds) (deviceOf c)) c h) (record { seeded = h })) .seeded

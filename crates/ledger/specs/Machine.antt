@@ -8,7 +8,7 @@ use Rattle.ledger.specs.Choice.{pick}
 use Rattle.ledger.specs.Shapes.{inputShape, blockingShape}
 use Rattle.ledger.specs.Places.{moved, extractedFrom}
 use Rattle.ledger.specs.Marks.{inputSpot, blockingSpot, withSpots, freshLedger}
-use Rattle.ledger.specs.Range.{inRange, fixedWords}
+use Rattle.ledger.specs.Range.{restInRange, fixedWords}
 use Rattle.ledger.specs.PublicCalls.{PublicCall, brings, deviceOf}
 use Rattle.ledger.specs.Plans.{decide, blocksRun, compressionsRun}
 use Rattle.ledger.specs.declared.Ledger.{Ledger}
@@ -68,8 +68,7 @@ planned c p v =
 
 -- the plan for a call at a view
 abbrev pub planAt : View → PublicCall → Plan
-planAt v c =
-    decide (inRange (v .ledger) (v .firsts) (v .seconds) (v .fixed)) (v .ledger) (timerOf (v .clocks) (v .firsts) (v .seconds) (deviceOf c)) c
+planAt v c = decide (restInRange (v .firsts) (v .seconds) (v .fixed)) (v .ledger) (timerOf (v .clocks) (v .firsts) (v .seconds) (deviceOf c)) c
 
 unfoldable pub stepView : View → PublicCall → Shown
 stepView v c = planned c (planAt v c) v

@@ -11,6 +11,7 @@ use Rattle.ledger.specs.Places.{blocksOf}
 use Rattle.ledger.specs.Credits.{credited, taken, debited, reseedTakes}
 use Rattle.ledger.specs.Clocks.{nextTimer, eventBits}
 use Rattle.ledger.specs.Marks.{inputCount, blockingCount, lastValue, withCounts, seededBy, valued, tallied, spilled, stays, reseedDue, blocks}
+use Rattle.ledger.specs.Range.{ledgerInRange, timerInRange}
 use Rattle.ledger.specs.PublicCalls.{PublicCall, event, interrupt, write, seed, read, blockingRead}
 use Rattle.ledger.specs.declared.Ledger.{Ledger}
 use Rattle.ledger.specs.declared.Timer.{Timer}
@@ -102,9 +103,10 @@ planCall l t (seed now len credit) = planSeed now len credit l
 planCall l t (read now len) = planRead now len l
 planCall l t (blockingRead len) = planBlockingRead len l
 
--- every call tests 17 first
+-- every call tests 17 first. What is decided from, the ledger and one timer, is tested here; `others` is the test of the rest of the
+-- record, all timers and generator words 0 to 3.
 unfoldable pub decide : Bool → Ledger → Timer → PublicCall → Plan
-decide fine l t c = pick fine (planCall l t c) (rest outOfRange l)
+decide others l t c = pick (others && (ledgerInRange l && timerInRange t)) (planCall l t c) (rest outOfRange l)
 
 -- ---- what a plan costs and hands out: the generator's blocks, with one for the key where it needs it, and the extraction blocks
 abbrev pub wholeBlocks : ℕ → ℕ

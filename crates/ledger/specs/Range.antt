@@ -8,6 +8,7 @@ use Rattle.ledger.specs.Shapes.{Shape, inputShape, blockingShape}
 use Rattle.ledger.specs.Marks.{inputCount, blockingCount, inputSpot, blockingSpot}
 use Rattle.ledger.specs.declared.Spot.{Spot}
 use Rattle.ledger.specs.declared.Ledger.{Ledger}
+use Rattle.ledger.specs.declared.Timer.{Timer}
 
 -- no count above its S, no position outside its pool, no rotation above 31
 abbrev pub poolInRange : Shape → ℕ → Spot → Bool
@@ -46,7 +47,14 @@ unfoldable pub ledgerInRange : Ledger → Bool
 ledgerInRange l =
     poolInRange inputShape (inputCount l) (inputSpot l) && (poolInRange blockingShape (blockingCount l) (blockingSpot l) && leb (l .tally) 63)
 
--- the whole test, over the ledger, the timers' d1 and d2, and generator words 0 to 3
+-- a timer's part
+abbrev pub timerInRange : Timer → Bool
+timerInRange t = firstInRange (t .d1) && secondInRange (t .d2)
+
+-- all timers, and generator words 0 to 3
+unfoldable pub restInRange : List ℤ → List ℤ → List ℕ → Bool
+restInRange firsts seconds fixed = every firstInRange firsts && (every secondInRange seconds && sameWords fixed fixedWords)
+
+-- the whole test
 unfoldable pub inRange : Ledger → List ℤ → List ℤ → List ℕ → Bool
-inRange l firsts seconds fixed =
-    ledgerInRange l && (every firstInRange firsts && (every secondInRange seconds && sameWords fixed fixedWords))
+inRange l firsts seconds fixed = ledgerInRange l && restInRange firsts seconds fixed

@@ -14,7 +14,7 @@ use Rattle.ledger.specs.Places.{moved, movedBlocks}
 use Rattle.ledger.specs.Credits.{further, credited, taken}
 use Rattle.ledger.specs.Clocks.{signed, log2, estimate, eventBits}
 use Rattle.ledger.specs.Marks.{inputCount, blockingCount, withCounts, seededAt}
-use Rattle.ledger.specs.Range.{ledgerInRange, inRange, fixedWords}
+use Rattle.ledger.specs.Range.{ledgerInRange, restInRange, inRange, fixedWords}
 use Rattle.pool.specs.Mixing.{twisted, tapped, mixedWords, mix}
 use Rattle.pool.specs.Extracting.{hashed, poolHash, folded, extractBlocks}
 use Rattle.keeper.specs.FastPool.{stirred}
@@ -39,28 +39,28 @@ pub event-computes :
     (line8 (told zero48 (deviceEvent 1 1024 0x0123456789abcdef 7))) ∷ (drop 112 ((told zero48 (deviceEvent 1 1024 0x0123456789abcdef 7)) .keeper .input)) ∷ []
     ≡ (0 ∷ 0 ∷ 0 ∷ 0 ∷ 60 ∷ 0 ∷ 112 ∷ 16 ∷ []) ∷ (0x45263c25 ∷ 0x44a2ebeb ∷ 0x4884559b ∷ 0x29b1a61b ∷ 0x968c3699 ∷ 0x6f47a14e ∷ 0xccdf06f2 ∷ 0xd04d28d7
     ∷ 0x34dc59fd ∷ 0x7d91c9a9 ∷ 0x5a6ccdca ∷ 0xbef566bb ∷ 0x87fc2619 ∷ 0xf5e7254e ∷ 0xc2d7f374 ∷ 0xa00ae265 ∷ []) ∷ []
-unfolding told inRange ledgerInRange act eventCall creditInput eventBits estimate log2 signed credited further mix mixedWords tapped twisted rotl leBytes pick
+unfolding told inRange restInRange ledgerInRange act eventCall creditInput eventBits estimate log2 signed credited further mix mixedWords tapped twisted rotl leBytes pick
 event-computes = refl
 
 -- an interrupt that only stirs
 pub interrupt-computes :
     (line8 (told zero48 (interrupted 5 9 0x0123456789abcdef 0xfedcba9876543210))) ∷ ((told zero48 (interrupted 5 9 0x0123456789abcdef 0xfedcba9876543210)) .keeper .fast) ∷ []
     ≡ (0 ∷ 0 ∷ 0 ∷ 0 ∷ 0 ∷ 0 ∷ 0 ∷ 0 ∷ []) ∷ (0x2628c4f4 ∷ 0x5c023703 ∷ 0x42ddd036 ∷ 0xe005f622 ∷ []) ∷ []
-unfolding told inRange ledgerInRange act interruptCall stirred signed rotl pick
+unfolding told inRange restInRange ledgerInRange act interruptCall stirred signed rotl pick
 interrupt-computes = refl
 
 -- a write of three bytes
 pub write-computes :
     (line8 (told zero48 (written (1 ∷ 2 ∷ 255 ∷ [])))) ∷ (drop 125 ((told zero48 (written (1 ∷ 2 ∷ 255 ∷ []))) .keeper .input)) ∷ []
     ≡ (0 ∷ 0 ∷ 0 ∷ 0 ∷ 0 ∷ 0 ∷ 125 ∷ 21 ∷ []) ∷ (0x3b84604f ∷ 0x076dc439 ∷ 0x3b6e20c8 ∷ []) ∷ []
-unfolding told inRange ledgerInRange act writeCall mix mixedWords tapped twisted rotl pick
+unfolding told inRange restInRange ledgerInRange act writeCall mix mixedWords tapped twisted rotl pick
 write-computes = refl
 
 -- a seed of the same bytes, with all their 24 bits
 pub seed-computes :
     (line8 (told zero48 (seededWith 0 (1 ∷ 2 ∷ 255 ∷ []) 24))) ∷ (drop 125 ((told zero48 (seededWith 0 (1 ∷ 2 ∷ 255 ∷ []) 24)) .keeper .input)) ∷ []
     ≡ (0 ∷ 0 ∷ 0 ∷ 0 ∷ 144 ∷ 0 ∷ 125 ∷ 21 ∷ []) ∷ (0x3b84604f ∷ 0x076dc439 ∷ 0x3b6e20c8 ∷ []) ∷ []
-unfolding told inRange ledgerInRange act seedCall creditInput credited further mix mixedWords tapped twisted rotl pick
+unfolding told inRange restInRange ledgerInRange act seedCall creditInput credited further mix mixedWords tapped twisted rotl pick
 seed-computes = refl
 
 -- a seed of 22 bytes with 171 bits, which seeds the keeper: 16 bytes taken, 16 compressions, 2 units left, four words of the key changed
@@ -70,7 +70,7 @@ seeding = told zero48 (seededWith 9 (0 ∷ 1 ∷ 2 ∷ 3 ∷ 4 ∷ 5 ∷ 6 ∷ 7
 pub seeding-computes :
     (line8 seeding) ∷ (take 5 (drop 4 (seeding .keeper .generator))) ∷ (seeding .keeper .ledger .«seeding_clock» ∷ []) ∷ []
     ≡ (0 ∷ 0 ∷ 0 ∷ 16 ∷ 2 ∷ 0 ∷ 66 ∷ 18 ∷ []) ∷ (0x041192b6 ∷ 0xbf685517 ∷ 0xcbfa167e ∷ 0xdd01c9c1 ∷ 0 ∷ []) ∷ (9 ∷ []) ∷ []
-unfolding told inRange ledgerInRange act seedCall creditInput reseed taken credited further extractBlocks poolHash hashed folded compressed initialHash run step schedule nextWord constant Sha1·mix ch parity maj swapped leNumber leBytes wordsBytes bytesWords xorAt mix mixedWords tapped twisted rotl zipWith pick
+unfolding told inRange restInRange ledgerInRange act seedCall creditInput reseed taken credited further extractBlocks poolHash hashed folded compressed initialHash run step schedule nextWord constant Sha1·mix ch parity maj swapped leNumber leBytes wordsBytes bytesWords xorAt mix mixedWords tapped twisted rotl zipWith pick
 seeding-computes = refl
 
 -- a generator read of 32 bytes from the state of RFC 7539, section 2.3.2: the block's first half is handed out, its second half is
@@ -90,7 +90,7 @@ pub read-computes :
     ≡ (0 ∷ 32 ∷ 1 ∷ 0 ∷ 0 ∷ 0 ∷ 0 ∷ 0 ∷ []) ∷ (0x10 ∷ 0xf1 ∷ 0xe7 ∷ 0xe4 ∷ 0xd1 ∷ 0x3b ∷ 0x59 ∷ 0x15 ∷ 0x50 ∷ 0x0f ∷ 0xdd ∷ 0x1f ∷ 0xa3 ∷ 0x20 ∷ 0x71 ∷ 0xc4
     ∷ 0xc7 ∷ 0xd1 ∷ 0xf4 ∷ 0xc7 ∷ 0x33 ∷ 0xc0 ∷ 0x68 ∷ 0x03 ∷ 0x04 ∷ 0x22 ∷ 0xaa ∷ 0x9a ∷ 0xc3 ∷ 0xd4 ∷ 0x6c ∷ 0x4e ∷ []) ∷ (0x456683d2 ∷ 0x0eac9a03 ∷ 0x0eddcb1c ∷ 0xad0c86d5 ∷ 0xc28e03a5 ∷ 0xae5803ca ∷ 0xf399c9d3 ∷ 0x51224dbe
     ∷ 0x00000002 ∷ 0x09000000 ∷ 0x4a000000 ∷ 0x00000000 ∷ []) ∷ []
-unfolding told inRange ledgerInRange act readCall generate generated stream counted xorAt bytesWords leNumber wordsBytes leBytes chachaBlock rounds innerBlock quarterRound line rotl zipWith signed pick
+unfolding told inRange restInRange ledgerInRange act readCall generate generated stream counted xorAt bytesWords leNumber wordsBytes leBytes chachaBlock rounds innerBlock quarterRound line rotl zipWith signed pick
 read-computes = refl
 
 -- a blocking read of 10 bytes from a pool that has them: one extraction block, two compressions, 20 bytes mixed back
@@ -111,7 +111,7 @@ pub blocking-computes :
     (line8 drawn) ∷ (drawn .bytes) ∷ (drop 12 (drawn .keeper .blocking)) ∷ []
     ≡ (0 ∷ 10 ∷ 0 ∷ 2 ∷ 0 ∷ 0 ∷ 0 ∷ 0 ∷ []) ∷ (0x53 ∷ 0x02 ∷ 0xa3 ∷ 0x67 ∷ 0x07 ∷ 0x2d ∷ 0x6f ∷ 0xfb ∷ 0x7c ∷ 0x11 ∷ []) ∷ (0x503a4bed ∷ 0xb491b84e ∷ 0x90764e75 ∷ 0x8c7cfff7 ∷ 0x99af293e ∷ 0x68621202 ∷ 0xdf9dc7ca ∷ 0xb4b4aae5 ∷ 0x3a4a5e8e ∷ 0x07de9375
     ∷ 0x89c2858b ∷ 0x3d557f23 ∷ 0x5cb31817 ∷ 0xfeef8bee ∷ 0x9ab81a7e ∷ 0x0ee6c155 ∷ 0xb7360aa8 ∷ 0xa8674692 ∷ 0x4369e749 ∷ 0x76dc4194 ∷ []) ∷ []
-unfolding told inRange ledgerInRange act blockingCall deliver transfer taken credited further extractBlocks poolHash hashed folded compressed initialHash run step schedule nextWord constant Sha1·mix ch parity maj swapped leNumber leBytes wordsBytes mix mixedWords tapped twisted rotl zipWith pick
+unfolding told inRange restInRange ledgerInRange act blockingCall deliver transfer taken credited further extractBlocks poolHash hashed folded compressed initialHash run step schedule nextWord constant Sha1·mix ch parity maj swapped leNumber leBytes wordsBytes mix mixedWords tapped twisted rotl zipWith pick
 blocking-computes = refl
 
 -- a blocking read of 3 bytes that has to fetch: 8 bytes come over from the input pool (8 compressions), 393 units then stand in the
@@ -130,5 +130,5 @@ pub fetch-computes :
     (line8 fetched) ∷ (fetched .bytes) ∷ (fetched .keeper .ledger .«blocking_spot» .at ∷ fetched .keeper .ledger .«blocking_spot» .turn ∷ []) ∷ (drop 108 (fetched .keeper .input)) ∷ []
     ≡ (0 ∷ 3 ∷ 0 ∷ 10 ∷ 0 ∷ 201 ∷ 108 ∷ 12 ∷ []) ∷ (0xb8 ∷ 0x1e ∷ 0x86 ∷ []) ∷ (4 ∷ 4 ∷ [])
     ∷ (0x0a08dc30 ∷ 0x5046f02f ∷ 0x2fa48a56 ∷ 0xe8d554e4 ∷ 0x2b60be04 ∷ 0x8075360a ∷ 0xd88fa638 ∷ 0x1ac82f17 ∷ 0xd6c17904 ∷ 0x00a7d642 ∷ 0x053e929a ∷ 0xa9f495e8 ∷ 0x0cf3bddf ∷ 0x6763ef9b ∷ 0x8dfed90c ∷ 0xb4d0dab7 ∷ 0x66d1c7ad ∷ 0x858c3015 ∷ 0xf762574c ∷ 0xd6d6a3a1 ∷ []) ∷ []
-unfolding told inRange ledgerInRange act blockingCall deliver transfer taken credited further extractBlocks poolHash hashed folded compressed initialHash run step schedule nextWord constant Sha1·mix ch parity maj swapped leNumber leBytes wordsBytes mix mixedWords tapped twisted rotl zipWith pick
+unfolding told inRange restInRange ledgerInRange act blockingCall deliver transfer taken credited further extractBlocks poolHash hashed folded compressed initialHash run step schedule nextWord constant Sha1·mix ch parity maj swapped leNumber leBytes wordsBytes mix mixedWords tapped twisted rotl zipWith pick
 fetch-computes = refl
