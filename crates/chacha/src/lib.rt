@@ -4,7 +4,8 @@
 // adds it to its start, and lays a block into a room as bytes, by `room`. Every index is a literal once the small functions are inlined,
 // and there is no branch on a state's words.
 //
-// The contracts are equations with specs/Chacha.antt, for every state and every room; nothing is required.
+// The contracts are equations with specs/Chacha.antt, for every state and every room. Only `quarter_round` asks for something: that the
+// four places are places of the state. It is exported for the published vectors.
 pub mod blocks;
 mod room;
 pub mod rounds;

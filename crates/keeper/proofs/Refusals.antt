@@ -2,12 +2,20 @@
 -- reports no work; and so does a refused making. Assumes nothing.
 use mathlib.Core.Path.{_≡_, refl}
 use mathlib.Core.List.{List, []}
-use Prim.Native.Nat.{ℕ}
+use Prim.Native.Nat.{ℕ, _≤_}
+use native.Mathlib.Omega.{arith}
+use lib.ListN.{length, drop, length-append, length-drop}
+use borrow.Author.Tests.{eq-eqb, ne-eqb}
+use Rattle.ledger.specs.Choice.{pick}
+use Rattle.ledger.proofs.Still.{asked, delivered-fits}
 use Rattle.ledger.proofs.Picks.{pick-both}
-use Rattle.keeper.specs.Record.{Outcome, refused, roomAfter, made}
-use Rattle.keeper.specs.Calls.{Call, deviceEvent, interrupted, written, seededWith, generatorRead, blockingReadOf}
+use Rattle.keeper.specs.Record.{Outcome, refused, fresh, view, roomAfter, made}
+use Rattle.keeper.specs.Calls.{Call, public, deviceEvent, interrupted, written, seededWith, generatorRead, blockingReadOf}
 use Rattle.keeper.specs.Narrative.{eventCall, interruptCall, writeCall, seedCall, generate, readCall, deliver, blockingCall, act, told}
+use Rattle.keeper.specs.Obey.{obey, step}
 use Rattle.keeper.specs.declared.Keeper.{Keeper}
+use Rattle.keeper.proofs.Same.{same}
+use Rattle.keeper.proofs.Shadow.{Whole, delivered-is}
 
 -- an outcome that is a refusal wherever its number is not 0
 abbrev pub Refuses : Keeper → Outcome → Type 0
@@ -41,7 +49,23 @@ demand-1 k c = pick-both (Refuses k) _ (act-refuses k c) (itself k 17)
 pub room-stays : (n : ℕ) (k : Keeper) (room : List ℕ) → roomAfter room ((refused n k) .bytes) ≡ room
 room-stays n k room = refl
 
--- a making that is not answered 0 leaves the record as it was
-pub making-refuses : (start : List ℕ) (k : Keeper) → ((made start k) .answer .number ≡ 0 → ⊥) → made start k ≡ refused 6 k
-unfolding made
-making-refuses start k = pick-both (λ (o : Outcome). (o .answer .number ≡ 0 → ⊥) → o ≡ refused 6 k) _ (λ h. absurd (h refl)) (λ h. refl)
+-- a making from 48 bytes answers 0 and gives the fresh keeper; from any other number of bytes it answers 6 and leaves the record
+pub making-48 : (start : List ℕ) (k : Keeper) → length start ≡ 48 → made start k ≡ refused 0 (fresh start)
+unfolding made pick
+making-48 start k h = rw (eq-eqb (length start) 48 h)
+
+pub making-refuses : (start : List ℕ) (k : Keeper) → (length start ≡ 48 → ⊥) → made start k ≡ refused 6 k
+unfolding made pick
+making-refuses start k h = rw (ne-eqb (length start) 48 h)
+
+-- ---- what an answer says was delivered is what was handed out, and the room keeps its length
+pub delivered : (k : Keeper) (c : Call) → (told k c) .answer .delivered ≡ length ((told k c) .bytes)
+unfolding step obey
+delivered k c = rw (same k c)
+
+pub room-length : (k : Keeper) (c : Call) (room : List ℕ) → Whole k → asked (public c) ≤ length room → length (roomAfter room ((told k c) .bytes)) ≡ length room
+room-length k c room w h =
+    let bs = (told k c) .bytes in
+    let f = (delivered-fits (view k) (public c)) .0 in
+    let d = delivered-is k c w in
+    simp (length-append, length-drop) (omega (arith, f, d, delivered k c))

@@ -13,7 +13,7 @@ use Rattle.ledger.specs.Choice.{pick}
 use Rattle.ledger.specs.Shapes.{inputShape, blockingShape}
 use Rattle.ledger.specs.Credits.{credited, taken, debited, reseedTakes}
 use Rattle.ledger.specs.Clocks.{nextTimer, eventBits}
-use Rattle.ledger.specs.Marks.{inputCount, blockingCount, blockingSpot, withCounts, withSpots, valued, tallied, spilled, stays, reseedDue}
+use Rattle.ledger.specs.Marks.{inputCount, blockingCount, blockingSpot, isSeeded, withCounts, withSpots, valued, tallied, spilled, stays, reseedDue}
 use Rattle.ledger.specs.PublicCalls.{deviceOf}
 use Rattle.ledger.specs.Plans.{freshTimer, planOf, rest, firstSeeding, reseeding, feed, keeping, planEvent, planInterrupt, planWrite, planSeed, planRead, transferred, refilled, planBlockingRead, planCall}
 use Rattle.ledger.proofs.InRange.{plan-at-is}
@@ -129,7 +129,7 @@ feeds : (now n : ℕ) (keeps stirs : Bool) (tm : Timer) (l : Ledger) (c : Call) 
 unfolding creditInput reseed firstSeeding base
 feeds now n keeps stirs tm l c k =
     let cc = credited (inputShape .size) n (inputCount l) in
-    credits now (base keeps stirs tm l c k) (eqb n 0) (not (l .seeded)) (leb 1024 cc) cc (reseedTakes cc) (λ h. credited-none (inputShape .size) n (inputCount l) h)
+    credits now (base keeps stirs tm l c k) (eqb n 0) (not (isSeeded l)) (leb 1024 cc) cc (reseedTakes cc) (λ h. credited-none (inputShape .size) n (inputCount l) h)
     ∙ formed now keeps stirs tm l cc (firstSeeding n cc l) c k
 
 -- ---- the calls, one by one

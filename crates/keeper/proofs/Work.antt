@@ -111,26 +111,21 @@ unfolding movedBlocks
 blocks-add sh zero b s = ap (λ (n : ℕ). movedBlocks sh n s) (sym (zero-add b))
 blocks-add sh (suc a) b s = blocks-add sh a b (moved sh 20 s) ∙ ap (λ (n : ℕ). movedBlocks sh n s) (sym (suc-add a b))
 
--- how far each pool moved, and what was counted for it: `fed` bytes went into the input pool and `passed` into the blocking pool, and
--- extraction then moved them by 20 bytes for each of its blocks
-pub record Moved (k : Keeper) (o : Outcome) (fed passed : ℕ) : Type 0 where
-  pub inputBlocks : ℕ
-  pub blockingBlocks : ℕ
-  pub input : inputSpot (o .keeper .ledger) ≡ movedBlocks inputShape inputBlocks (moved inputShape fed (inputSpot (k .ledger)))
-  pub blocking : blockingSpot (o .keeper .ledger) ≡ movedBlocks blockingShape blockingBlocks (moved blockingShape passed (blockingSpot (k .ledger)))
-  pub compressions : o .answer .compressions ≡ 8 * inputBlocks + 2 * blockingBlocks
+-- how far each pool moved, and what was counted for it: `fed` bytes went into the input pool and `passed` into the blocking pool;
+-- extraction then moved them by 20 bytes for each of its blocks, `i` and `b` of them
+pub record Moved (k : Keeper) (o : Outcome) (fed passed i b : ℕ) : Type 0 where
+  pub input : inputSpot (o .keeper .ledger) ≡ movedBlocks inputShape i (moved inputShape fed (inputSpot (k .ledger)))
+  pub blocking : blockingSpot (o .keeper .ledger) ≡ movedBlocks blockingShape b (moved blockingShape passed (blockingSpot (k .ledger)))
+  pub compressions : o .answer .compressions ≡ 8 * i + 2 * b
 
--- THE COMPRESSIONS of every call
+-- THE COMPRESSIONS of every call: the blocks are those of the bytes taken for a reseed, brought over and delivered
 pub compressions-real : (k : Keeper) (c : Call) → Whole k
     → let p = planAt (view k) (public c) in
-    Moved k (told k c) (pick (p .feeds) (brings (public c)) 0) (p .transfer)
+    Moved k (told k c) (pick (p .feeds) (brings (public c)) 0) (p .transfer) (blocksOf (p .reseed) + blocksOf (p .transfer)) (blocksOf (p .deliver))
 unfolding stepView planned inputMoved blockingMoved
 compressions-real k c w =
-    let v = view k in
-    let p = planAt v (public c) in
+    let p = planAt (view k) (public c) in
     record {
-      inputBlocks = blocksOf (p .reseed) + blocksOf (p .transfer);
-      blockingBlocks = blocksOf (p .deliver);
       input = ap (λ (u : View). inputSpot (u .ledger)) (view-is k c w) ∙ blocks-add inputShape (blocksOf (p .reseed)) (blocksOf (p .transfer)) _;
       blocking = ap (λ (u : View). blockingSpot (u .ledger)) (view-is k c w);
       compressions = ap (λ (s : Shown). s .compressions) (shadow k c w) ∙ omega arith;

@@ -10,7 +10,7 @@ use Rattle.ledger.specs.Numbers.{done, wouldBlock, unseeded, tooLong, noSuchDev
 use Rattle.ledger.specs.Shapes.{inputShape, blockingShape}
 use Rattle.ledger.specs.Credits.{credited, taken, debited, reseedTakes}
 use Rattle.ledger.specs.Clocks.{nextTimer, eventBits}
-use Rattle.ledger.specs.Marks.{inputCount, blockingCount, lastValue, withCounts, seededAt, valued, tallied, spilled, stays, reseedDue, blocks}
+use Rattle.ledger.specs.Marks.{inputCount, blockingCount, lastValue, isSeeded, withCounts, seededAt, valued, tallied, spilled, stays, reseedDue, blocks}
 use Rattle.pool.specs.Mixing.{Pool, mix}
 use Rattle.pool.specs.Extracting.{Extract, extract}
 use Rattle.keeper.specs.FastPool.{stirred}
@@ -55,7 +55,7 @@ unfoldable pub creditInput : ℕ → ℕ → Keeper → Run
 creditInput now n k =
     let c = credited (inputShape .size) n (inputCount (k .ledger)) in
     let k₁ = recount c (blockingCount (k .ledger)) k in
-    pick (eqb n 0) (k, 0) (pick (not (k .ledger .seeded) && leb 1024 c) (reseed now k₁) (k₁, 0))
+    pick (eqb n 0) (k, 0) (pick (not (isSeeded (k .ledger)) && leb 1024 c) (reseed now k₁) (k₁, 0))
 
 -- ---- device event
 unfoldable pub eventCall : ℕ → ℕ → ℕ → ℕ → Keeper → Outcome
@@ -99,7 +99,7 @@ unfoldable pub readCall : ℕ → ℕ → Keeper → Outcome
 readCall now len k =
     pick (ltb 4096 len) (refused tooLong k)
     (pick (eqb len 0) (refused done k)
-    (pick (not (k .ledger .seeded)) (refused unseeded k) (generate len (pick (reseedDue now (k .ledger)) (reseed now k) (k, 0)))))
+    (pick (not (isSeeded (k .ledger))) (refused unseeded k) (generate len (pick (reseedDue now (k .ledger)) (reseed now k) (k, 0)))))
 
 -- ---- blocking read
 -- t bytes from the input pool are mixed into the blocking pool, and eight bits a byte credited there

@@ -10,7 +10,7 @@ use Rattle.ledger.specs.Choice.{pick}
 use Rattle.ledger.specs.Places.{moved, movedBlocks}
 use Rattle.ledger.specs.Credits.{turnTakes, turnAdds, further, credited, taken}
 use Rattle.ledger.specs.Clocks.{signed, clockDiff, log2, estimate, eventBits}
-use Rattle.ledger.specs.Marks.{inputCount, blockingCount}
+use Rattle.ledger.specs.Marks.{inputCount, blockingCount, isSeeded}
 use Rattle.ledger.specs.Range.{fixedWords, ledgerInRange, restInRange}
 use Rattle.ledger.specs.PublicCalls.{PublicCall, event, interrupt, write, seed, read, blockingRead}
 use Rattle.ledger.specs.Plans.{firstSeeding, feed, planEvent, planInterrupt, planWrite, planSeed, planRead, planBlockingRead, planCall, decide}
@@ -25,7 +25,7 @@ Line = ℕ × ℕ × ℕ × ℕ × ℕ × ℕ × Bool
 
 -- what an answer shows
 abbrev pub line : Shown → Line
-line s = (s .number, s .delivered, inputCount (s .view .ledger), blockingCount (s .view .ledger), s .blocks, s .compressions, s .view .ledger .seeded)
+line s = (s .number, s .delivered, inputCount (s .view .ledger), blockingCount (s .view .ledger), s .blocks, s .compressions, isSeeded (s .view .ledger))
 
 -- the lines of calls made one after the other
 unfoldable pub linesFrom : View → List PublicCall → List Line
@@ -66,7 +66,7 @@ spot i r = record { at = i; turn = r }
 abbrev pub but : ℕ → ℕ → Spot → Spot → ℕ → ℤ → ℤ → List ℕ → View
 but i b si sb n d1 d2 words =
     record {
-      ledger = record { «input_count» = i; «blocking_count» = b; «input_spot» = si; «blocking_spot» = sb; «last_value» = 0; tally = n; «last_spill» = 0; seeded = false; «seeding_clock» = 0 };
+      ledger = record { «input_count» = i; «blocking_count» = b; «input_spot» = si; «blocking_spot» = sb; «last_value» = 0; tally = n; «last_spill» = 0; seeded = 0; «seeding_clock» = 0 };
       clocks = freshView .clocks;
       firsts = set (freshView .firsts) 15 d1;
       seconds = set (freshView .seconds) 15 d2;
@@ -76,6 +76,17 @@ but i b si sb n d1 d2 words =
 -- a view that is fresh but for its counts
 abbrev pub counts : ℕ → ℕ → View
 counts i b = but i b (spot 0 0) (spot 0 0) 0 (pos 0) (pos 0) fixedWords
+
+-- a view that is fresh but for its seeded mark
+abbrev pub seededMark : ℕ → View
+seededMark n =
+    record {
+      ledger = record { «input_count» = 0; «blocking_count» = 0; «input_spot» = spot 0 0; «blocking_spot» = spot 0 0; «last_value» = 0; tally = 0; «last_spill» = 0; seeded = n; «seeding_clock» = 0 };
+      clocks = freshView .clocks;
+      firsts = freshView .firsts;
+      seconds = freshView .seconds;
+      fixed = fixedWords;
+    }
 
 -- ---- the table
 abbrev pub table : List (Side × Side)
@@ -102,8 +113,8 @@ table =
     ∷ (fresh (bits 256 ∷ read 0 32 ∷ read 0 33 ∷ read 0 64 ∷ read 0 65 ∷ read 0 97 ∷ []), lines ((0, 0, 0, 0, 0, 24, true) ∷ (0, 32, 0, 0, 1, 0, true) ∷ (0, 33, 0, 0, 2, 0, true) ∷ (0, 64, 0, 0, 2, 0, true) ∷ (0, 65, 0, 0, 2, 0, true) ∷ (0, 97, 0, 0, 3, 0, true) ∷ []))
     -- the shortest and the longest generator read, and one whose used bytes are rounded up past 32
     ∷ (fresh (bits 256 ∷ read 0 1 ∷ read 0 4096 ∷ read 0 93 ∷ []), lines ((0, 0, 0, 0, 0, 24, true) ∷ (0, 1, 0, 0, 1, 0, true) ∷ (0, 4096, 0, 0, 65, 0, true) ∷ (0, 93, 0, 0, 2, 0, true) ∷ []))
-    -- an event of device 1 on a fresh keeper at 1,024: 10 bits, 60 units; then its clock runs back, and then it does not move
-    ∷ (fresh (event 1 1024 0 ∷ event 1 0 0 ∷ event 1 0 0 ∷ []), lines ((0, 0, 60, 0, 0, 0, false) ∷ (0, 0, 119, 0, 0, 0, false) ∷ (0, 0, 119, 0, 0, 0, false) ∷ []))
+    -- an event of device 1 on a fresh keeper at 1,500: 10 bits; then its clock runs back, and then it does not move
+    ∷ (fresh (event 1 1500 0 ∷ event 1 0 0 ∷ event 1 0 0 ∷ []), lines ((0, 0, 60, 0, 0, 0, false) ∷ (0, 0, 119, 0, 0, 0, false) ∷ (0, 0, 119, 0, 0, 0, false) ∷ []))
     -- the least of the three amounts counts: all are 1,000, then d2 is 0, then d2 and d3 are 1,000
     ∷ (fresh (event 2 1000 0 ∷ event 2 2000 0 ∷ event 2 4000 0 ∷ []), lines ((0, 0, 54, 0, 0, 0, false) ∷ (0, 0, 54, 0, 0, 0, false) ∷ (0, 0, 107, 0, 0, 0, false) ∷ []))
     -- amounts at the ends of the range: d1 at its least twice, so that d2 is then 0, and d1 at its most, with d2 at its most
@@ -140,6 +151,8 @@ table =
     ∷ (from (counts 32768 640) (blockingRead 10 ∷ []), lines ((0, 10, 32768, 0, 0, 2, false) ∷ []))
     -- numbers 1 and 2, and lengths of 0, which are answered 0 even unseeded
     ∷ (each freshView (blockingRead 1 ∷ read 0 1 ∷ blockingRead 0 ∷ read 0 0 ∷ write 0 ∷ bits 0 ∷ []), numbers (1 ∷ 2 ∷ 0 ∷ 0 ∷ 0 ∷ 0 ∷ []))
+    -- a seeded mark of 1 opens the generator, and no other number does
+    ∷ (atEach (seededMark 0 ∷ seededMark 1 ∷ seededMark 2 ∷ seededMark 256 ∷ []) (read 0 1), numbers (2 ∷ 0 ∷ 2 ∷ 2 ∷ []))
     -- number 3: past 4,096 and not at it; it is tested before 5, 1 and 2
     ∷ (each freshView (write 4097 ∷ seed 0 4097 0 ∷ read 0 4097 ∷ blockingRead 4097 ∷ seed 0 4097 40000 ∷ []), numbers (3 ∷ 3 ∷ 3 ∷ 3 ∷ 3 ∷ []))
     ∷ (each freshView (write 4096 ∷ seed 0 4096 0 ∷ read 0 4096 ∷ blockingRead 4096 ∷ []), numbers (0 ∷ 0 ∷ 2 ∷ 1 ∷ []))

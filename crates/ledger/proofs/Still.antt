@@ -113,14 +113,14 @@ delivered-fits v c =
 -- ---- seeded for good
 -- a plan that leaves the ledger seeded
 record Seeded (p : Plan) : Type 0 where
-  seeded : p .ledger .seeded ≡ true
+  seeded : p .ledger .seeded ≡ 1
 
 -- a mark that is set stays set under a choice of itself or set
-kept : (t m : Bool) → m ≡ true → pick t m true ≡ true
-kept t m h = pick-both (λ b. b ≡ true) t h refl
+kept : (t : Bool) (m : ℕ) → m ≡ 1 → pick t m 1 ≡ 1
+kept t m h = pick-both (λ (n : ℕ). n ≡ 1) t h refl
 
 -- each call leaves a seeded ledger seeded
-plan-seeded : (l : Ledger) (t : Timer) (c : PublicCall) → l .seeded ≡ true → Seeded (planCall l t c)
+plan-seeded : (l : Ledger) (t : Timer) (c : PublicCall) → l .seeded ≡ 1 → Seeded (planCall l t c)
 unfolding planCall planEvent planInterrupt planWrite planSeed planRead planBlockingRead feed
 plan-seeded l t (event device now value) h = pick-both Seeded _ (record { seeded = h }) (pick-both Seeded _ (record { seeded = h }) (record { seeded = kept _ (l .seeded) h }))
 plan-seeded l t (interrupt now number) h = pick-both Seeded _ (record { seeded = h }) (record { seeded = kept _ (l .seeded) h })
@@ -130,7 +130,7 @@ plan-seeded l t (read now len) h = pick-both Seeded _ (record { seeded = h }) (p
 plan-seeded l t (blockingRead len) h = pick-both Seeded _ (record { seeded = h }) (pick-both Seeded _ (record { seeded = h }) (pick-both Seeded _ (record { seeded = h }) (record { seeded = h })))
 
 -- a seeded keeper stays seeded
-pub seeded-stays : (v : View) (c : PublicCall) → v .ledger .seeded ≡ true → (stepView v c) .view .ledger .seeded ≡ true
+pub seeded-stays : (v : View) (c : PublicCall) → v .ledger .seeded ≡ 1 → (stepView v c) .view .ledger .seeded ≡ 1
 unfolding stepView planned decide
 seeded-stays v c h =
     (pick-both Seeded _ (plan-seeded (v .ledger) (timerOf (v .clocks) (v .firsts) (v .seconds) (deviceOf c)) c h) (record { seeded = h })) .seeded

@@ -28,6 +28,10 @@ lastSpill l = l .«last_spill»
 abbrev pub seedingClock : Ledger → ℕ
 seedingClock l = l .«seeding_clock»
 
+-- seeded: the mark is 1. No other number is read as a yes.
+abbrev pub isSeeded : Ledger → Bool
+isSeeded l = eqb (l .seeded) 1
+
 -- all zero, unseeded
 abbrev pub freshLedger : Ledger
 freshLedger =
@@ -39,7 +43,7 @@ freshLedger =
       «last_value» = 0;
       tally = 0;
       «last_spill» = 0;
-      seeded = false;
+      seeded = 0;
       «seeding_clock» = 0;
     }
 
@@ -84,7 +88,7 @@ seededAt now l =
       «last_value» = l .«last_value»;
       tally = l .tally;
       «last_spill» = l .«last_spill»;
-      seeded = true;
+      seeded = 1;
       «seeding_clock» = now;
     }
 
@@ -99,7 +103,7 @@ seededBy t now l =
       «last_value» = l .«last_value»;
       tally = l .tally;
       «last_spill» = l .«last_spill»;
-      seeded = pick (eqb t 0) (l .seeded) true;
+      seeded = pick (eqb t 0) (l .seeded) 1;
       «seeding_clock» = pick (eqb t 0) (seedingClock l) now;
     }
 

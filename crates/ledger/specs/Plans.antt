@@ -10,7 +10,7 @@ use Rattle.ledger.specs.Shapes.{inputShape, blockingShape}
 use Rattle.ledger.specs.Places.{blocksOf}
 use Rattle.ledger.specs.Credits.{credited, taken, debited, reseedTakes}
 use Rattle.ledger.specs.Clocks.{nextTimer, eventBits}
-use Rattle.ledger.specs.Marks.{inputCount, blockingCount, lastValue, withCounts, seededBy, valued, tallied, spilled, stays, reseedDue, blocks}
+use Rattle.ledger.specs.Marks.{inputCount, blockingCount, lastValue, isSeeded, withCounts, seededBy, valued, tallied, spilled, stays, reseedDue, blocks}
 use Rattle.ledger.specs.Range.{ledgerInRange, timerInRange}
 use Rattle.ledger.specs.PublicCalls.{PublicCall, event, interrupt, write, seed, read, blockingRead}
 use Rattle.ledger.specs.declared.Ledger.{Ledger}
@@ -31,7 +31,7 @@ rest n l = planOf n l false false 0 0 0 0
 
 -- the bytes of a first seeding: after crediting n > 0 to the input pool, an unseeded keeper with a count of 1,024 or more reseeds
 unfoldable pub firstSeeding : ℕ → ℕ → Ledger → ℕ
-firstSeeding n count l = pick (not (eqb n 0) && (not (l .seeded) && leb 1024 count)) (reseedTakes count) 0
+firstSeeding n count l = pick (not (eqb n 0) && (not (isSeeded l) && leb 1024 count)) (reseedTakes count) 0
 
 -- the input pool at a count of c, of which a reseed then takes t bytes
 abbrev pub reseeding : ℕ → ℕ → ℕ → Ledger → Ledger
@@ -76,7 +76,7 @@ planRead now len l =
     let t = pick (reseedDue now l) (reseedTakes (inputCount l)) 0 in
     pick (ltb 4096 len) (rest tooLong l)
     (pick (eqb len 0) (rest done l)
-    (pick (not (l .seeded)) (rest unseeded l) (planOf done (reseeding now (inputCount l) t l) false false t 0 0 len)))
+    (pick (not (isSeeded l)) (rest unseeded l) (planOf done (reseeding now (inputCount l) t l) false false t 0 0 len)))
 
 -- the bytes that a blocking read of n brings over from the input pool
 abbrev pub transferred : ℕ → Ledger → ℕ

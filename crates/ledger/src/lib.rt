@@ -25,8 +25,9 @@ pub struct Ledger {
     // interrupts since the last spill, and its clock
     pub tally: u32,
     pub last_spill: u32,
-    // seeded for good, and the clock of the last seeding
-    pub seeded: bool,
+    // 1: seeded for good. Any other number is read as unseeded: a mark that is damaged must not open the generator
+    pub seeded: u32,
+    // the clock of the last seeding
     pub seeding_clock: u32,
 }
 

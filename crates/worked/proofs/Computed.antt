@@ -34,10 +34,10 @@ line8 o =
     o .answer .number ∷ o .answer .delivered ∷ o .answer .blocks ∷ o .answer .compressions ∷ inputCount (o .keeper .ledger) ∷ blockingCount (o .keeper .ledger)
     ∷ o .keeper .ledger .«input_spot» .at ∷ o .keeper .ledger .«input_spot» .turn ∷ []
 
--- a device event: 16 bytes mixed, 10 bits, 60 units
+-- a device event: 16 bytes mixed, 10 bits credited
 pub event-computes :
-    (line8 (told zero48 (deviceEvent 1 1024 0x0123456789abcdef 7))) ∷ (drop 112 ((told zero48 (deviceEvent 1 1024 0x0123456789abcdef 7)) .keeper .input)) ∷ []
-    ≡ (0 ∷ 0 ∷ 0 ∷ 0 ∷ 60 ∷ 0 ∷ 112 ∷ 16 ∷ []) ∷ (0x45263c25 ∷ 0x44a2ebeb ∷ 0x4884559b ∷ 0x29b1a61b ∷ 0x968c3699 ∷ 0x6f47a14e ∷ 0xccdf06f2 ∷ 0xd04d28d7
+    (line8 (told zero48 (deviceEvent 1 1500 0x0123456789abcdef 7))) ∷ (drop 112 ((told zero48 (deviceEvent 1 1500 0x0123456789abcdef 7)) .keeper .input)) ∷ []
+    ≡ (0 ∷ 0 ∷ 0 ∷ 0 ∷ 60 ∷ 0 ∷ 112 ∷ 16 ∷ []) ∷ (0x452638f9 ∷ 0x44a2cd0b ∷ 0x4885629b ∷ 0x29b81e1b ∷ 0x96c1f699 ∷ 0x6d29a14e ∷ 0xdfaf06f2 ∷ 0xcbcd28d7
     ∷ 0x34dc59fd ∷ 0x7d91c9a9 ∷ 0x5a6ccdca ∷ 0xbef566bb ∷ 0x87fc2619 ∷ 0xf5e7254e ∷ 0xc2d7f374 ∷ 0xa00ae265 ∷ []) ∷ []
 unfolding told inRange restInRange ledgerInRange act eventCall creditInput eventBits estimate log2 signed credited further mix mixedWords tapped twisted rotl leBytes pick
 event-computes = refl

@@ -15,6 +15,7 @@ use Rattle.ledger.specs.Clocks.{signed}
 use Rattle.ledger.specs.Marks.{inputCount, blockingCount, lastSpill, withCounts, seededAt}
 use Rattle.ledger.specs.Range.{ledgerInRange, restInRange, inRange}
 use Rattle.pool.specs.Mixing.{twisted, tapped, mixedWords, mix}
+use Rattle.pool.specs.Extracting.{extractBlocks}
 use Rattle.keeper.specs.FastPool.{stirred}
 use Rattle.keeper.specs.Generator.{xorAt, counted, stream, generated}
 use Rattle.keeper.specs.Record.{fresh, withLedger, withGenerator, Outcome}
@@ -108,6 +109,18 @@ blocks-33 = refl
 -- one that reports a fixed work count
 pub fixed-work : (W : Machine) → ((k k′ : Keeper) (c c′ : Call) → (W k c) .answer .blocks ≡ (W k′ c′) .answer .blocks) → Right W → ⊥
 fixed-work W h r = omega (arith, blocks-32, blocks-33, h seeded seeded (generatorRead 5 32) (generatorRead 5 33), ap (λ (o : Outcome). o .answer .blocks) (r seeded (generatorRead 5 32)), ap (λ (o : Outcome). o .answer .blocks) (r seeded (generatorRead 5 33)))
+
+two-runs : (told filled (blockingReadOf 10)) .answer .compressions ≡ 2
+unfolding told inRange restInRange ledgerInRange act blockingCall deliver transfer taken credited further extractBlocks pick
+two-runs = refl
+
+no-runs : (told blank (written [])) .answer .compressions ≡ 0
+unfolding told inRange restInRange ledgerInRange act writeCall pick
+no-runs = refl
+
+-- .. nor one whose compressions are fixed
+pub fixed-compressions : (W : Machine) → ((k k′ : Keeper) (c c′ : Call) → (W k c) .answer .compressions ≡ (W k′ c′) .answer .compressions) → Right W → ⊥
+fixed-compressions W h r = omega (arith, two-runs, no-runs, h filled blank (blockingReadOf 10) (written []), ap (λ (o : Outcome). o .answer .compressions) (r filled (blockingReadOf 10)), ap (λ (o : Outcome). o .answer .compressions) (r blank (written [])))
 
 six-units : inputCount ((told blank (seededWith 0 (0 ∷ []) 1)) .keeper .ledger) ≡ 6
 unfolding told inRange restInRange ledgerInRange act seedCall creditInput credited further pick
