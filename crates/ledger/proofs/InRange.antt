@@ -181,10 +181,24 @@ every-set t (x ∷ xs) (suc i) y h k =
 
 -- ---- plans
 -- the counts and the tally of a ledger in range
-record LedgerFine (l : Ledger) : Type 0 where
-  input : inputCount l ≤ inputShape .size
-  blocking : blockingCount l ≤ blockingShape .size
-  tally : l .tally ≤ 63
+pub record LedgerFine (l : Ledger) : Type 0 where
+  pub input : inputCount l ≤ inputShape .size
+  pub blocking : blockingCount l ≤ blockingShape .size
+  pub tally : l .tally ≤ 63
+
+-- a ledger that passes its part of the range test has them
+pub ledger-fine : (l : Ledger) → ledgerInRange l ≡ true → LedgerFine l
+unfolding ledgerInRange
+ledger-fine l h =
+    let i = poolInRange inputShape (inputCount l) (inputSpot l) in
+    let b = poolInRange blockingShape (blockingCount l) (blockingSpot l) in
+    let t = leb (l .tally) 63 in
+    let r = and-right i (b && t) h in
+    record {
+      input = pool-count inputShape (inputCount l) (inputSpot l) (and-left i (b && t) h);
+      blocking = pool-count blockingShape (blockingCount l) (blockingSpot l) (and-left b t r);
+      tally = leb-true _ _ (and-right b t r);
+    }
 
 -- a plan that leaves them so, with a timer in range
 record PlanFine (p : Plan) : Type 0 where

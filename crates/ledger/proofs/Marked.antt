@@ -10,7 +10,7 @@ use Rattle.ledger.specs.Choice.{pick}
 use Rattle.ledger.specs.Places.{moved, movedBlocks}
 use Rattle.ledger.specs.Credits.{turnTakes, turnAdds, further, credited, taken}
 use Rattle.ledger.specs.Clocks.{signed, clockDiff, log2, estimate, eventBits}
-use Rattle.ledger.specs.Marks.{inputCount, blockingCount, isSeeded}
+use Rattle.ledger.specs.Marks.{inputCount, blockingCount, inputSpot, blockingSpot, lastValue, lastSpill, seedingClock, isSeeded, freshLedger}
 use Rattle.ledger.specs.Range.{fixedWords, ledgerInRange, restInRange}
 use Rattle.ledger.specs.PublicCalls.{PublicCall, event, interrupt, write, seed, read, blockingRead}
 use Rattle.ledger.specs.Plans.{firstSeeding, feed, planEvent, planInterrupt, planWrite, planSeed, planRead, planBlockingRead, planCall, decide}
@@ -88,6 +88,12 @@ seededMark n =
       fixed = fixedWords;
     }
 
+-- where the next bytes go in both pools after calls made one after the other from a view
+abbrev pub spotsAfter : View → List PublicCall → List ℕ
+spotsAfter v cs =
+    let l = (viewAfter v cs) .ledger in
+    (inputSpot l) .at ∷ (inputSpot l) .turn ∷ (blockingSpot l) .at ∷ (blockingSpot l) .turn ∷ []
+
 -- ---- the table
 abbrev pub table : List (Side × Side)
 table =
@@ -131,6 +137,8 @@ table =
     ∷ (fresh (interrupt 1000 7 ∷ interrupt 0xFFFFFFFF 7 ∷ interrupt 1001 7 ∷ interrupt 2001 7 ∷ interrupt 1000 7 ∷ interrupt 2002 7 ∷ []), lines ((0, 0, 0, 0, 0, 0, false) ∷ (0, 0, 0, 0, 0, 0, false) ∷ (0, 0, 6, 0, 0, 0, false) ∷ (0, 0, 6, 0, 0, 0, false) ∷ (0, 0, 6, 0, 0, 0, false) ∷ (0, 0, 11, 0, 0, 0, false) ∷ []))
     -- the 64th interrupt in a row spills: not the 63rd and not the 65th
     ∷ (from (viewAfter freshView (replicate 62 (interrupt 0 7))) (interrupt 0 7 ∷ interrupt 0 7 ∷ interrupt 0 7 ∷ []), lines ((0, 0, 0, 0, 0, 0, false) ∷ (0, 0, 6, 0, 0, 0, false) ∷ (0, 0, 6, 0, 0, 0, false) ∷ []))
+    -- .. and a spill starts the tally again: the 64th after it spills, not the 63rd
+    ∷ (from (viewAfter freshView (interrupt 1001 7 ∷ replicate 62 (interrupt 1001 7))) (interrupt 1001 7 ∷ interrupt 1001 7 ∷ []), lines ((0, 0, 6, 0, 0, 0, false) ∷ (0, 0, 11, 0, 0, 0, false) ∷ []))
     -- the first seeding comes at exactly 1,024
     ∷ (fresh (bits 169 ∷ bits 1 ∷ bits 1 ∷ []), lines ((0, 0, 1014, 0, 0, 0, false) ∷ (0, 0, 1019, 0, 0, 0, false) ∷ (0, 0, 0, 0, 0, 16, true) ∷ []))
     -- and not at 1,023
@@ -149,6 +157,15 @@ table =
     -- a blocking read brings over 128 bytes at most, and none where the blocking pool has enough
     ∷ (from (counts 32768 0) (blockingRead 4096 ∷ []), lines ((0, 78, 24576, 0, 0, 120, false) ∷ []))
     ∷ (from (counts 32768 640) (blockingRead 10 ∷ []), lines ((0, 10, 32768, 0, 0, 2, false) ∷ []))
+    -- a fresh ledger is all zero
+    ∷ (numbers (inputCount freshLedger ∷ blockingCount freshLedger ∷ lastValue freshLedger ∷ freshLedger .tally ∷ lastSpill freshLedger ∷ freshLedger .seeded ∷ seedingClock freshLedger ∷ spotsAfter freshView []), numbers (replicate 11 0))
+    -- the position falls by one a byte and the rotation grows by 7, or by 14 at position 0: after 1, 127, 128 and 129 bytes
+    ∷ (numbers (spotsAfter freshView (write 1 ∷ [])), numbers (127 ∷ 7 ∷ 0 ∷ 0 ∷ []))
+    ∷ (numbers (spotsAfter freshView (write 127 ∷ [])), numbers (1 ∷ 25 ∷ 0 ∷ 0 ∷ []))
+    ∷ (numbers (spotsAfter freshView (write 128 ∷ [])), numbers (0 ∷ 7 ∷ 0 ∷ 0 ∷ []))
+    ∷ (numbers (spotsAfter freshView (write 129 ∷ [])), numbers (127 ∷ 14 ∷ 0 ∷ 0 ∷ []))
+    -- .. and by 20 bytes for each extraction block: 128 bytes come over in 13 blocks and go into the blocking pool, 78 go out in 8
+    ∷ (numbers (spotsAfter (counts 32768 0) (blockingRead 4096 ∷ [])), numbers (124 ∷ 10 ∷ 0 ∷ 31 ∷ []))
     -- numbers 1 and 2, and lengths of 0, which are answered 0 even unseeded
     ∷ (each freshView (blockingRead 1 ∷ read 0 1 ∷ blockingRead 0 ∷ read 0 0 ∷ write 0 ∷ bits 0 ∷ []), numbers (1 ∷ 2 ∷ 0 ∷ 0 ∷ 0 ∷ 0 ∷ []))
     -- a seeded mark of 1 opens the generator, and no other number does
