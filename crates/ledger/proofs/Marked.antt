@@ -117,8 +117,8 @@ table =
     ∷ (fresh (bits 4096 ∷ blockingRead 16 ∷ []), lines ((0, 0, 17920, 0, 0, 32, true) ∷ (0, 12, 16896, 0, 0, 20, true) ∷ []))
     -- P12: generator reads of 32, 33, 64, 65 and 97 bytes with no reseed due
     ∷ (fresh (bits 256 ∷ read 0 32 ∷ read 0 33 ∷ read 0 64 ∷ read 0 65 ∷ read 0 97 ∷ []), lines ((0, 0, 0, 0, 0, 24, true) ∷ (0, 32, 0, 0, 1, 0, true) ∷ (0, 33, 0, 0, 2, 0, true) ∷ (0, 64, 0, 0, 2, 0, true) ∷ (0, 65, 0, 0, 2, 0, true) ∷ (0, 97, 0, 0, 3, 0, true) ∷ []))
-    -- the shortest and the longest generator read, and one whose used bytes are rounded up past 32
-    ∷ (fresh (bits 256 ∷ read 0 1 ∷ read 0 4096 ∷ read 0 93 ∷ []), lines ((0, 0, 0, 0, 0, 24, true) ∷ (0, 1, 0, 0, 1, 0, true) ∷ (0, 4096, 0, 0, 65, 0, true) ∷ (0, 93, 0, 0, 2, 0, true) ∷ []))
+    -- the shortest and the longest generator read, one whose used bytes are rounded up to 32, and two that use just 32 of the last block
+    ∷ (fresh (bits 256 ∷ read 0 1 ∷ read 0 4096 ∷ read 0 93 ∷ read 0 96 ∷ read 0 160 ∷ []), lines ((0, 0, 0, 0, 0, 24, true) ∷ (0, 1, 0, 0, 1, 0, true) ∷ (0, 4096, 0, 0, 65, 0, true) ∷ (0, 93, 0, 0, 2, 0, true) ∷ (0, 96, 0, 0, 2, 0, true) ∷ (0, 160, 0, 0, 3, 0, true) ∷ []))
     -- an event of device 1 on a fresh keeper at 1,500: 10 bits; then its clock runs back, and then it does not move
     ∷ (fresh (event 1 1500 0 ∷ event 1 0 0 ∷ event 1 0 0 ∷ []), lines ((0, 0, 60, 0, 0, 0, false) ∷ (0, 0, 119, 0, 0, 0, false) ∷ (0, 0, 119, 0, 0, 0, false) ∷ []))
     -- the least of the three amounts counts: all are 1,000, then d2 is 0, then d2 and d3 are 1,000

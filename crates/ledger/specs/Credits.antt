@@ -1,8 +1,14 @@
 -- Credits and debits, on a count in eighths of a bit.
 use mathlib.Core.Bool.{_&&_}
-use Prim.Native.Nat.{ℕ, zero, suc, _+_, _-_, _*_, _/_, min}
+use Prim.Native.Nat.{ℕ, zero, suc, _+_, _-_, _*_, _/_, _≤_, min}
 use lib.Dec.{ltb, eqb}
 use Rattle.ledger.specs.Choice.{pick}
+
+-- a size that crediting is worked at, and a count that lies in it. Both pools' sizes are such.
+pub record Within (S count : ℕ) : Type 0 where
+  pub least : 2 ≤ S
+  pub most : S ≤ 32768
+  pub held : count ≤ S
 
 -- each turn takes min(rest, S/2) of the rest ..
 abbrev pub turnTakes : ℕ → ℕ → ℕ
