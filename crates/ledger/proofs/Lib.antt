@@ -2,9 +2,6 @@ pub mod Picks
 pub mod Crediting
 pub mod Unrolled
 pub mod InRange
-pub mod Allowed
-pub mod Signs
-pub mod Tested
 pub mod Blocking
 pub mod Still
 pub mod Marked

@@ -1,34 +1,11 @@
-// The public half of the keeper: all that decides, and nothing that is secret. Counts, positions, timers, marks and the public
-// fields of a call go in; the answer's number and a plan come out: which counts and marks result, and how many bytes go from
-// where to where. Code above this crate carries the plan out on the secrets. No crate that handles a secret lies below it.
+// The public half of the keeper, as rules: all that decides, and nothing that is secret. Counts, positions, timers, marks and the
+// public fields of a call go in; the answer's number and a plan come out: which counts and marks result, and how many bytes go
+// from where to where. No crate that handles a secret lies below this one.
 //
-// `credits` has crediting and debiting, `clocks` the differences of clocks and the bits that an event earns, `range` the range test,
-// `plans` the deciding of each call by these, `numbers` the numbers given back.
-//
-// specs/ has the customer's rules, a file for each of the paper's sections: Numbers, Shapes, Places, Credits, Clocks, Range; then
-// PublicCalls and Plans, by which a call is decided, and Machine, which is the whole keeper as far as it can be seen.
-// proofs/ has what follows from these alone: crediting, debiting, "in range stays in range", blocking, the marked cases.
-pub mod clocks;
-pub mod credits;
-pub mod numbers;
-pub mod plans;
-pub mod range;
-
-pub use clocks::clock_diff;
-pub use clocks::event_bits;
-pub use clocks::exceeds;
-pub use clocks::next_timer;
-pub use credits::credit;
-pub use credits::debit;
-pub use plans::decide_blocking_read;
-pub use plans::decide_event;
-pub use plans::decide_interrupt;
-pub use plans::decide_read;
-pub use plans::decide_seed;
-pub use plans::decide_write;
-pub use range::ledger_in_range;
-pub use range::rest_in_range;
-pub use range::timer_in_range;
+// Here are the structs, specs/ with the customer's rules, a file for each of the paper's sections (Numbers, Shapes, Places, Credits,
+// Clocks, Range; then PublicCalls and Plans, by which a call is decided, and Machine, which is the whole keeper as far as it can be
+// seen), and proofs/ with what follows from these alone: crediting, debiting, "in range stays in range", blocking, the marked cases.
+// The code is in `reckon` (counts, clocks, the range test) and `decide` (the plans of the calls).
 
 // Where a pool's next byte goes: its position and its rotation.
 #[repr(C)]

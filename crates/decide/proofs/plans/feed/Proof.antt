@@ -1,0 +1,25 @@
+use Rattle.ledger.specs.Plans.{feed}
+use borrow.Author.Needs.{needs}
+use Rattle.decide.proofs.plans.feed.Statement.{statement}
+use Rattle.decide.proofs.plans.feed.Tie as tie
+
+credit-requires : tie.Need-credit-requires
+credit-requires c κs = search needs
+
+first-seeding-requires : tie.Need-first-seeding-requires
+first-seeding-requires c κs = search needs
+
+reseeding-requires : tie.Need-reseeding-requires
+reseeding-requires c κs = search needs
+
+plan-of-requires : tie.Need-plan-of-requires
+plan-of-requires c κs = search needs
+
+returns : tie.Need-returns
+unfolding feed
+returns c = rw (c .plan-of .ensures, c .before .reseeding .ensures, c .before .before .first-seeding .ensures .0, c .before .before .before .credit .ensures .0)
+
+pub feed-spec : {M : Type 1} → statement M
+feed-spec =
+    tie.close
+    (tie.spec credit-requires first-seeding-requires reseeding-requires plan-of-requires returns)

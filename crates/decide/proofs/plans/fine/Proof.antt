@@ -1,0 +1,15 @@
+use borrow.Author.Needs.{needs}
+use Rattle.decide.proofs.plans.fine.Statement.{statement}
+use Rattle.decide.proofs.plans.fine.Tie as tie
+
+ledger-in-range-requires : tie.Need-ledger-in-range-requires
+ledger-in-range-requires c κs = search needs
+
+timer-in-range-requires : tie.Need-timer-in-range-requires
+timer-in-range-requires c κs = search needs
+
+returns : tie.Need-returns
+returns c = rw (c .timer-in-range .ensures, c .before .ledger-in-range .ensures)
+
+pub fine-spec : {M : Type 1} → statement M
+fine-spec = tie.close (tie.spec ledger-in-range-requires timer-in-range-requires returns)

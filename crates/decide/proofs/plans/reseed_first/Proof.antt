@@ -1,0 +1,23 @@
+use Rattle.ledger.specs.Choice.{pick}
+use native.Mathlib.Omega.{arith}
+use mathlib.Core.Path.{_≡_, refl, sym, ap, _∙_}
+use borrow.Author.Needs.{needs}
+use Rattle.decide.proofs.plans.reseed_first.Statement.{statement}
+use Rattle.decide.proofs.plans.reseed_first.Tie as tie
+
+exceeds-requires : tie.Need-exceeds-requires
+exceeds-requires c κs = search needs
+
+debit-requires : tie.Need-debit-requires
+debit-requires c κs = search needs
+
+returns : tie.Need-returns
+unfolding pick
+returns c = (rw (sym (c .before .before .exceeds .ensures) ∙ c .before .if1 .taken) (c .debit .ensures .0), c .debit .ensures .1 .0)
+
+returns-2 : tie.Need-returns-2
+unfolding pick
+returns-2 c = (rw (sym (c .before .exceeds .ensures) ∙ c .if1 .left), omega arith)
+
+pub reseed-first-spec : {M : Type 1} → statement M
+reseed-first-spec = tie.close (tie.spec exceeds-requires debit-requires returns returns-2)

@@ -1,0 +1,141 @@
+-- What the clocks' code rests on: bounds of signed numbers, said in ℕ, where omega reads them; a clock's wrapped difference, read as
+-- signed; and the floor of log2 by the leading zeros.
+use mathlib.Core.Path.{_≡_, refl, ap, subst}
+use mathlib.Core.Bool.{Bool, true, false, cond}
+use Prim.Native.Nat.{ℕ, zero, suc, _+_, _-_, _/_, _%_, _^_, _≤_, _<_, min, max}
+use native.Mathlib.Omega.{arith}
+use lib.Dec.{T, ltb}
+use lib.Count.{leadingZeros, leading-top}
+use lib.Pow.{pow-pos}
+use lib.IntN.{ℤ, pos, negsuc, natAbs, subℕ, _-ℤ_}
+use lib.Signed.{mag, ltZ, nonNeg}
+use mir.Syntax.{w64}
+use mir.Val.{SFits, toZ, ofZ}
+use mir.Facts.{toZ-ofZ, toZ-pos}
+use borrow.Author.Tests.{lt-ltb, le-ltb, ltb-true, ltb-false, leb-true, ne-eqb}
+use Rattle.ledger.specs.Choice.{pick}
+use Rattle.ledger.specs.Clocks.{signed, clockDiff, exceeds, nextTimer, log2, estimate, eventBits}
+use Rattle.ledger.specs.Range.{firstInRange, secondInRange, timerInRange}
+use Rattle.ledger.specs.declared.Timer.{Timer}
+use Rattle.ledger.proofs.Picks.{and-left, and-right, both}
+use Rattle.ledger.proofs.InRange.{diff-within, second-within}
+
+-- ---- signed numbers
+-- the two sizes of a number lie within one of each other
+pub lies : (z : ℤ) → (mag z ≤ natAbs z) × (natAbs z ≤ suc (mag z))
+lies (pos n) = omega arith
+lies (negsuc n) = omega arith
+
+-- the difference of two naturals lies within the greater
+sub-by : (t : Bool) (a b : ℕ) → ltb a b ≡ t → natAbs (cond t (negsuc (b - suc a)) (pos (a - b))) ≤ max a b
+sub-by true a b e = omega (arith, ltb-true a b e)
+sub-by false a b e = omega (arith, ltb-false a b e)
+
+sub-near : (a b : ℕ) → natAbs (subℕ a b) ≤ max a b
+sub-near a b = sub-by (ltb a b) a b refl
+
+-- two numbers of one signed width differ by less than its power
+pub near : (H : ℕ) (x y : ℤ) → mag x < H → mag y < H → natAbs (x -ℤ y) < H + H
+near H (pos a) (pos zero) h k = omega arith
+near H (pos a) (pos (suc b)) h k = omega (arith, sub-near a (suc b))
+near H (pos a) (negsuc b) h k = omega arith
+near H (negsuc a) (pos zero) h k = omega (arith, sub-near zero (suc a))
+near H (negsuc a) (pos (suc b)) h k = omega arith
+near H (negsuc a) (negsuc b) h k = omega (arith, sub-near (suc b) (suc a))
+
+-- amounts far below the width: their difference fits it
+pub sub-fits : (x y : ℤ) → natAbs x < 2 ^ 62 → natAbs y < 2 ^ 62 → SFits w64 (x -ℤ y)
+sub-fits x y h k = record { sfits = omega (arith, lies (x -ℤ y), near (2 ^ 62) x y (omega (arith, lies x)) (omega (arith, lies y))) }
+
+-- a signed local holds bits: what it is read back as
+pub back : (z : ℤ) → mag z < 2 ^ 63 → toZ w64 (ofZ w64 z) ≡ z
+back z h = toZ-ofZ (record { sfits = h })
+
+-- 32 bits, read as signed in 64
+pub up : (n : ℕ) → n < 2 ^ 32 → toZ w64 n ≡ pos n
+up n h = toZ-pos w64 (omega arith)
+
+-- the absolute amount, by the test of the sign
+pub turned : (x : ℤ) → ltZ x (pos 0) ≡ true → T (nonNeg (pos 0 -ℤ x)) × (natAbs (pos 0 -ℤ x) ≡ natAbs x)
+turned (pos n) e = absurd (not-below n (ltb-true n 0 e))
+  where
+    not-below : (n : ℕ) → n < 0 → ⊥
+    not-below n h = omega arith
+turned (negsuc n) e = (tt, omega arith)
+
+pub unturned : (x : ℤ) → ltZ x (pos 0) ≡ false → T (nonNeg x)
+unturned (pos n) e = tt
+unturned (negsuc n) e = subst T e tt
+
+-- ---- differences of clocks
+-- by the wrapped difference n: ahead, and behind
+module _ (n now before : ℕ) (below : n < 2 ^ 32) (before-fits : before < 2 ^ 32) (wraps : (n + before) % 2 ^ 32 ≡ now) where
+  is : n ≡ (now + 2 ^ 32 - before) % 2 ^ 32
+  is = omega arith
+
+  pub ahead : n < 2 ^ 31 → pos n ≡ clockDiff now before
+  unfolding signed pick
+  ahead h = rw (← is) (simp (lt-ltb n (2 ^ 31) h))
+
+  pub behind : 2 ^ 31 ≤ n → pos n -ℤ pos (2 ^ 32) ≡ clockDiff now before
+  unfolding signed pick
+  behind h = rw (← is) (simp (le-ltb n (2 ^ 31) h))
+
+pub behind-fits : (n : ℕ) → 2 ^ 31 ≤ n → n < 2 ^ 32 → mag (pos n -ℤ pos (2 ^ 32)) < 2 ^ 31
+behind-fits n h k = simp (lt-ltb n (2 ^ 32) k) (omega arith)
+
+-- a limit is exceeded where it is below the difference
+pub past-limit : (z : ℤ) (limit : ℕ) → ltZ (pos limit) z ≡ exceeds z limit
+past-limit (pos n) limit = refl
+past-limit (negsuc n) limit = refl
+
+-- ---- timers in range
+pub first-bound : (z : ℤ) → firstInRange z ≡ true → mag z < 2 ^ 31
+first-bound (pos n) h = omega (arith, leb-true n (2 ^ 31 - 1) h)
+first-bound (negsuc n) h = ltb-true n (2 ^ 31) h
+
+pub second-bound : (z : ℤ) → secondInRange z ≡ true → natAbs z < 2 ^ 32
+second-bound (pos n) h = omega (arith, leb-true n (2 ^ 32 - 1) h)
+second-bound (negsuc n) h = omega (arith, ltb-true n (2 ^ 32 - 1) h)
+
+pub diff-bound : (now before : ℕ) → mag (clockDiff now before) < 2 ^ 31
+diff-bound now before = first-bound (clockDiff now before) (diff-within now before)
+
+-- the numbers of a timer in range
+pub d1-bound : (t : Timer) → timerInRange t ≡ true → mag (t .d1) < 2 ^ 31
+d1-bound t h = first-bound (t .d1) (and-left (firstInRange (t .d1)) (secondInRange (t .d2)) h)
+
+pub d2-bound : (t : Timer) → timerInRange t ≡ true → natAbs (t .d2) < 2 ^ 32
+d2-bound t h = second-bound (t .d2) (and-right (firstInRange (t .d1)) (secondInRange (t .d2)) h)
+
+-- the timer after it is in range too
+pub next-in-range : (now : ℕ) (t : Timer) → timerInRange t ≡ true → timerInRange (nextTimer now t) ≡ true
+next-in-range now t h =
+    let d = clockDiff now (t .clock) in
+    both (firstInRange d) (secondInRange (d -ℤ t .d1)) (diff-within now (t .clock))
+    (second-within d (t .d1) (diff-within now (t .clock)) (and-left (firstInRange (t .d1)) (secondInRange (t .d2)) h))
+
+-- ---- the estimate
+-- the floor of log2, from its powers
+log2-is : (f m j : ℕ) → j ≤ f → 2 ^ j ≤ m → m < 2 ^ suc j → log2 f m ≡ j
+unfolding log2 pick
+log2-is zero m zero h l u = refl
+log2-is zero m (suc j) h l u = omega arith
+log2-is (suc f) m zero h l u = simp (lt-ltb m 2 (omega arith))
+log2-is (suc f) m (suc j) h l u =
+    simp (le-ltb m 2 (omega (arith, pow-pos j))) (ap suc (log2-is f (m / 2) j (omega arith) (omega arith) (omega arith)))
+
+-- and from the leading zeros
+pub log2-lead : (m : ℕ) → 0 < m → m < 2 ^ 64 → leadingZeros 64 m + suc (log2 64 m) ≡ 64
+log2-lead m h k =
+    let t = leading-top 64 m h k in
+    omega (arith, t .1, log2-is 64 m (t .0) (omega (arith, t .1)) (t .2) (t .3))
+
+pub estimate-is : (m : ℕ) → 0 < m → estimate m ≡ min 11 (log2 64 m)
+unfolding estimate pick
+estimate-is m h = simp (ne-eqb m 0 (λ e. omega arith))
+
+-- the bits of an event, by the timer after it
+pub bits-of-next : (now : ℕ) (t u : Timer) → u ≡ nextTimer now t → estimate (min (natAbs (u .d1)) (min (natAbs (u .d2)) (natAbs (u .d2 -ℤ t .d2)))) ≡ eventBits now t
+unfolding eventBits
+bits-of-next now t u e = rw e

@@ -1,0 +1,31 @@
+use native.Mathlib.Omega.{arith}
+use borrow.Author.Needs.{needs}
+use Rattle.ledger.specs.Clocks.{clockDiff}
+use Rattle.reckon.proofs.Signs.{back, lies, sub-fits, diff-bound, d1-bound}
+use Rattle.reckon.proofs.clocks.next_timer.Statement.{statement}
+use Rattle.reckon.proofs.clocks.next_timer.Tie as tie
+
+clock-diff-requires : tie.Need-clock-diff-requires
+clock-diff-requires c κs = search needs
+
+minus-requires : tie.Need-minus-requires
+minus-requires c κs =
+    let d = c .before .clock-diff in
+    let s = c .before .before in
+    let x = clockDiff (s .args .now) (s .args .t .clock) in
+    let y = s .args .t .d1 in
+    let h = d1-bound (s .args .t) (s .pre) in
+    rw (back (d .result) (d .ok), back y (omega arith), d .ensures)
+    (sub-fits x y (omega (arith, lies x, diff-bound (s .args .now) (s .args .t .clock))) (omega (arith, lies y)))
+
+returns : tie.Need-returns
+returns c =
+    let d = c .before .before .clock-diff in
+    let s = c .before .before .before in
+    let h = d1-bound (s .args .t) (s .pre) in
+    let b = back (d .result) (d .ok) in
+    let y = back (s .args .t .d1) (omega arith) in
+    rw (back (c .minus .result) (c .minus .ok), c .minus .ensures, b, y, d .ensures)
+
+pub next-timer-spec : {M : Type 1} → statement M
+next-timer-spec = tie.close (tie.spec clock-diff-requires minus-requires returns)

@@ -1,0 +1,47 @@
+-- `ledger::credits::credit` meets its contract: a first turn on a rest of 8 for each bit, then the turns that are left.
+use mathlib.Core.Path.{_≡_, sym}
+use native.Mathlib.Omega.{arith}
+use borrow.Author.Needs.{needs}
+use Rattle.ledger.proofs.Crediting.{credited-room}
+use Rattle.ledger.proofs.Unrolled.{credited-none, credited-turns}
+use Rattle.ledger.specs.Credits.{credited}
+use Rattle.reckon.proofs.credits.credit.Statement.{statement}
+use Rattle.reckon.proofs.credits.credit.Tie as tie
+
+returns : tie.Need-returns
+returns c = (rw (c .if1 .taken, credited-none), omega arith)
+
+mul-rest : tie.Need-mul-rest
+mul-rest c = search needs
+
+after-turn-requires : tie.Need-after-turn-requires
+after-turn-requires c κs = search needs
+
+turn-takes-requires : tie.Need-turn-takes-requires
+turn-takes-requires c κs = search needs
+
+sub-turns : tie.Need-sub-turns
+sub-turns c = search needs
+
+turns-requires : tie.Need-turns-requires
+turns-requires c κs = search needs
+
+returns-2 : tie.Need-returns-2
+returns-2 c =
+    let s = c .before .before .before .before .args in
+    let is : c .turns .result ≡ credited (s .size) (s .bits) (s .count)
+    = rw (c .turns .ensures, c .before .turn-takes .ensures, c .before .before .after-turn .ensures .0)
+    (sym (credited-turns (s .size) (s .bits) (s .count) (omega arith) (omega arith))) in
+    (is, rw is (credited-room (s .size) (s .bits) (s .count) (omega arith) (omega arith)))
+
+pub credit-spec : {M : Type 1} → statement M
+credit-spec =
+    tie.close
+    (tie.spec
+    returns
+    mul-rest
+    after-turn-requires
+    turn-takes-requires
+    sub-turns
+    turns-requires
+    returns-2)

@@ -1,0 +1,54 @@
+-- `ledger::credits::turn_adds` meets its contract: what a turn multiplies fits, and a turn adds no more than there is room for.
+use mathlib.Core.Path.{_≡_}
+use Prim.Native.Nat.{_-_, _*_, _/_, _≤_}
+use native.Mathlib.Nat.{mul-le-mul}
+use native.Mathlib.Omega.{arith}
+use borrow.Author.Needs.{needs}
+use Rattle.ledger.specs.Credits.{turnAdds}
+use Rattle.ledger.proofs.Crediting.{turn-room}
+use Rattle.reckon.proofs.credits.turn_adds.Statement.{statement}
+use Rattle.reckon.proofs.credits.turn_adds.Tie as tie
+
+-- the room times what is taken of the rest
+product : (c : tie.After-turn-takes) → (c .before .args .size - c .before .args .count) * c .turn-takes .result ≤ 536870912
+product c =
+    let room : c .before .args .size - c .before .args .count ≤ 32768 = omega arith in
+    let half : c .turn-takes .result ≤ 16384 = omega arith in
+    mul-le-mul room half
+
+sub-result : tie.Need-sub-result
+sub-result c = search needs
+
+turn-takes-requires : tie.Need-turn-takes-requires
+turn-takes-requires c κs = search needs
+
+mul-result : tie.Need-mul-result
+mul-result c = omega (arith, product c)
+
+mul-result-2 : tie.Need-mul-result-2
+mul-result-2 c = omega (arith, product c)
+
+mul-result-3 : tie.Need-mul-result-3
+mul-result-3 c = search needs
+
+div-result : tie.Need-div-result
+div-result c = search needs
+
+returns : tie.Need-returns
+returns c =
+    let s = c .before .args in
+    let is : (s .size - s .count) * c .turn-takes .result * 3 / (4 * s .size) ≡ turnAdds (s .size) (s .count) (s .rest)
+    = rw (c .turn-takes .ensures) in
+    (is, rw is (turn-room (s .size) (s .count) (s .rest) (omega arith)))
+
+pub turn-adds-spec : {M : Type 1} → statement M
+turn-adds-spec =
+    tie.close
+    (tie.spec
+    sub-result
+    turn-takes-requires
+    mul-result
+    mul-result-2
+    mul-result-3
+    div-result
+    returns)

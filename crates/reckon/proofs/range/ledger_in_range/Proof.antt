@@ -1,0 +1,21 @@
+use mathlib.Core.Bool.{and-assoc}
+use borrow.Author.Needs.{needs}
+use Rattle.ledger.specs.Range.{ledgerInRange}
+use Rattle.reckon.proofs.range.ledger_in_range.Statement.{statement}
+use Rattle.reckon.proofs.range.ledger_in_range.Tie as tie
+
+pool-in-range-requires : tie.Need-pool-in-range-requires
+pool-in-range-requires c κs = search needs
+
+pool-in-range-requires-2 : tie.Need-pool-in-range-requires-2
+pool-in-range-requires-2 c κs = search needs
+
+returns : tie.Need-returns
+unfolding ledgerInRange
+returns c =
+    let i = c .before .before .pool-in-range in
+    let b = c .before .pool-in-range2 in
+    rw (and-assoc (i .result) (b .result), i .ensures, b .ensures)
+
+pub ledger-in-range-spec : {M : Type 1} → statement M
+ledger-in-range-spec = tie.close (tie.spec pool-in-range-requires pool-in-range-requires-2 returns)
