@@ -11,6 +11,7 @@ use Rattle.ledger.specs.Shapes.{inputShape, blockingShape}
 use Rattle.ledger.specs.Credits.{credited, taken, debited, reseedTakes}
 use Rattle.ledger.specs.Clocks.{nextTimer, eventBits}
 use Rattle.ledger.specs.Marks.{inputCount, blockingCount, lastValue, isSeeded, withCounts, seededAt, valued, tallied, spilled, stays, reseedDue, blocks}
+use Rattle.ledger.specs.declared.Ledger.{Ledger}
 use Rattle.pool.specs.Mixing.{Pool, mix}
 use Rattle.pool.specs.Extracting.{Extract, extract}
 use Rattle.keeper.specs.FastPool.{stirred}
@@ -28,12 +29,16 @@ abbrev pub finished : Run → Outcome
 finished w = record { keeper = w .0; answer = record { number = done; delivered = 0; blocks = 0; compressions = w .1 }; bytes = [] }
 
 -- ---- steps that several calls share
+-- the ledger's marks are changed
+abbrev pub marking : (Ledger → Ledger) → Keeper → Keeper
+marking f k = withLedger (f (k .ledger)) k
+
 abbrev pub mixInput : List ℕ → Keeper → Keeper
 mixInput bs k = withInput (mix inputShape (inputPool k) bs) k
 
 -- the counts become i and b
 abbrev pub recount : ℕ → ℕ → Keeper → Keeper
-recount i b k = withLedger (withCounts i b (k .ledger)) k
+recount i b k = marking (withCounts i b) k
 
 -- t bytes taken from the input pool: the count falls by 64 for each
 abbrev pub debitInput : ℕ → Keeper → Keeper
@@ -41,7 +46,7 @@ debitInput t k = recount (debited t (inputCount (k .ledger))) (blockingCount (k 
 
 -- t bytes extracted go onto the key; the seeding clock becomes `now`; the keeper is seeded for good
 abbrev pub rekey : ℕ → Extract → Keeper → Keeper
-rekey now e k = withLedger (seededAt now ((withInput (e .pool) k) .ledger)) (withGenerator (ontoKey (e .bytes) (k .generator)) (withInput (e .pool) k))
+rekey now e k = marking (seededAt now) (withGenerator (ontoKey (e .bytes) (k .generator)) (withInput (e .pool) k))
 
 -- reseed: debit the input pool, 32 wanted, least 16; if none is taken, nothing changes
 unfoldable pub reseed : ℕ → Keeper → Run
@@ -61,18 +66,18 @@ creditInput now n k =
 unfoldable pub eventCall : ℕ → ℕ → ℕ → ℕ → Keeper → Outcome
 eventCall device now stamp value k =
     let t = deviceTimer k device in
+    let k₁ = mixInput (eventBytes stamp now value) k in
+    let k₂ = marking (valued device value) (withTimer device (nextTimer now t) k₁) in
     pick (ltb 15 device) (refused noSuchDevice k)
-    (pick (eqb device 0 && eqb value (lastValue (k .ledger))) (refused repeated k)
-    (finished (creditInput now (eventBits now t)
-    (withTimer device (nextTimer now t) (withLedger (valued device value ((mixInput (eventBytes stamp now value) k) .ledger)) (mixInput (eventBytes stamp now value) k))))))
+    (pick (eqb device 0 && eqb value (lastValue (k .ledger))) (refused repeated k) (finished (creditInput now (eventBits now t) k₂)))
 
 -- ---- interrupt
 unfoldable pub interruptCall : ℕ → ℕ → ℕ → ℕ → Keeper → Outcome
 interruptCall now number stamp address k =
     let f = stirred now number stamp address (k .fast) in
     let k₁ = withFast f k in
-    pick (stays now (k .ledger)) (finished (withLedger (tallied (k .ledger)) k₁, 0))
-    (finished (creditInput now 1 (withLedger (spilled now ((mixInput (wordsBytes f) k₁) .ledger)) (mixInput (wordsBytes f) k₁))))
+    let k₂ = marking (spilled now) (mixInput (wordsBytes f) k₁) in
+    pick (stays now (k .ledger)) (finished (marking tallied k₁, 0)) (finished (creditInput now 1 k₂))
 
 -- ---- write: mix all bytes; no credit
 unfoldable pub writeCall : List ℕ → Keeper → Outcome
