@@ -1,0 +1,65 @@
+use mathlib.Core.Path.{_≡_, refl}
+use Prim.Native.Nat.{_≤_, _-_, _/_, _%_}
+use native.Mathlib.Omega.{arith}
+use borrow.Author.Needs.{needs}
+use lib.ListN.{length, drop}
+use Rattle.sha1.specs.Sha1.{initialHash}
+use Rattle.pool.specs.Extracting.{hashed}
+use Rattle.mixer.specs.Sizes.{shapeOf}
+use Rattle.mixer.proofs.Blocks.{hash-start, in-blocks, hash-more, hash-done}
+use Rattle.mixer.proofs.extracting.hash_pool.Statement.{statement}
+use Rattle.mixer.proofs.extracting.hash_pool.Tie as tie
+
+abbrev Inv-loop : tie.InvT-loop
+Inv-loop ws h₀ k₀ h k =
+    (k ≤ length ws)
+    × ((k % 16 ≡ 0)
+    × (hashed ((length ws - k) / 16) h (drop k ws) ≡ hashed ((shapeOf (length ws)) .rounds) initialHash ws))
+
+abbrev μ-loop : tie.MeasureT-loop
+μ-loop ws h₀ k₀ h k = length ws - k
+
+initial-hash-requires : tie.Need-initial-hash-requires Inv-loop μ-loop
+initial-hash-requires c κs = search needs
+
+loop-holds : tie.Need-loop-holds Inv-loop μ-loop
+loop-holds c = (omega arith, (refl, rw (c .initial-hash .ensures, hash-start _ (c .before .before .pre))))
+
+message-requires : tie.Need-message-requires Inv-loop μ-loop
+message-requires c κs =
+    let b = in-blocks _ (c .before .before .before .before .pre) in
+    omega arith
+
+compress-requires : tie.Need-compress-requires Inv-loop μ-loop
+compress-requires c κs = search needs
+
+add-k : tie.Need-add-k Inv-loop μ-loop
+add-k c = search needs
+
+loop-less : tie.Need-loop-less Inv-loop μ-loop
+loop-less c = omega arith
+
+loop-again : tie.Need-loop-again Inv-loop μ-loop
+loop-again c =
+    let t = c .before .before in
+    let l = t .before .loop in
+    let b = in-blocks _ (t .before .before .before .before .pre) in
+    (omega arith, (omega arith, hash-more _ _ _ _ _ (t .loop-test .taken) b (l .inv .1 .0) (rw (c .before .message .ensures) at (c .compress .ensures)) (l .inv .1 .1)))
+
+returns : tie.Need-returns Inv-loop μ-loop
+returns c = hash-done (c .before .before .before .before .args .ws .now) _ _ (c .before .loop .k) (c .loop-test .left) (c .before .loop .inv .1 .1)
+
+pub hash-pool-spec : {M : Type 1} → statement M
+hash-pool-spec =
+    tie.close
+    (tie.spec
+    Inv-loop
+    μ-loop
+    initial-hash-requires
+    loop-holds
+    message-requires
+    compress-requires
+    add-k
+    loop-less
+    loop-again
+    returns)
