@@ -1,0 +1,3 @@
+mod ShortWords
+mod Laying
+mod KeyWords

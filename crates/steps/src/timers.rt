@@ -1,0 +1,71 @@
+// A device's timer in the table: its number in each of three arrays.
+ghost use mathlib.Core.Path.{_≡_};
+ghost use Prim.Native.Nat.{_<_};
+ghost use lib.IntN.{pos};
+ghost use lib.ListN.{getD, set};
+ghost use Rattle.ledger.specs.Machine.{timerOf};
+use ledger::Timer;
+
+// A device's clock; where there is no such device, 0.
+fn clock_at(clocks: &[u32], device: usize) -> u32
+    ensures { λ r. ⌜ r ≡ getD (now (clocks .entry)) device 0 ⌝ }
+{
+    if device < clocks.len() {
+        clocks[device]
+    } else {
+        0
+    }
+}
+
+// A device's first or second difference; where there is no such device, 0.
+fn difference_at(differences: &[i64], device: usize) -> i64
+    ensures { λ r. ⌜ r ≡ getD (now (differences .entry)) device (pos 0) ⌝ }
+{
+    if device < differences.len() {
+        return differences[device];
+    }
+    0
+}
+
+// The timer of a device; of one over 15 there is none, and what stands here is not used.
+pub fn timer_of(clocks: &[u32; 16], firsts: &[i64; 16], seconds: &[i64; 16], device: u32) -> Timer
+    ensures { λ r. ⌜ r ≡ timerOf (now (clocks .entry)) (now (firsts .entry)) (now (seconds .entry)) device ⌝ }
+{
+    let i = device as usize;
+    let clock = clock_at(clocks, i);
+    let first = difference_at(firsts, i);
+    let second = difference_at(seconds, i);
+    Timer {
+        clock: clock,
+        d1: first,
+        d2: second,
+    }
+}
+
+// A device's difference is kept.
+fn keep_difference(differences: &mut [i64; 16], device: u32, d: i64)
+    requires { ⌜ device < 16 ⌝ }
+    ensures { λ _. ⌜ now (differences .exit) ≡ set (now (differences .entry)) device d ⌝ }
+{
+    let i = device as usize;
+    differences[i] = d;
+}
+
+// The timer of a device is kept.
+pub fn keep_timer(
+    clocks: &mut [u32; 16],
+    firsts: &mut [i64; 16],
+    seconds: &mut [i64; 16],
+    device: u32,
+    t: Timer,
+)
+    requires { ⌜ device < 16 ⌝ }
+    ensures { λ _. ⌜ now (clocks .exit) ≡ set (now (clocks .entry)) device (t .clock) ⌝ }
+    ensures { λ _. ⌜ now (firsts .exit) ≡ set (now (firsts .entry)) device (t .d1) ⌝ }
+    ensures { λ _. ⌜ now (seconds .exit) ≡ set (now (seconds .entry)) device (t .d2) ⌝ }
+{
+    let i = device as usize;
+    clocks[i] = t.clock;
+    keep_difference(firsts, device, t.d1);
+    keep_difference(seconds, device, t.d2);
+}
