@@ -2,3 +2,6 @@ pub mod Accepted
 pub mod Carried
 pub mod Starting
 pub mod Strokes
+pub mod FixedAnswers
+pub mod ExactlyTold
+pub mod PublicAlone
