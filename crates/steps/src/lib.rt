@@ -7,12 +7,12 @@
 //
 // `answers` has what a call gives back, `range` the test of what a ledger does not hold, `timers` a device's timer in the table;
 // `making` makes a keeper, `feeding` has the calls that bring bytes, `reading` those that take some.
-pub mod answers;
+mod answers;
 pub mod feeding;
 pub mod making;
-pub mod range;
+mod range;
 pub mod reading;
-pub mod timers;
+mod timers;
 
 pub use answers::Done;
 pub use feeding::event_on;

@@ -1,8 +1,6 @@
 use native.Mathlib.Omega.{arith}
-use mathlib.Core.Path.{_≡_, refl}
-use Prim.Native.Nat.{_≤_}
-use Rattle.ledger.specs.Choice.{pick}
-use Rattle.ledger.specs.Plans.{wholeBlocks, streamBlocks, blocksRun}
+use Prim.Native.Nat.{_+_, _≤_}
+use Rattle.ledger.specs.Plans.{blocksRun}
 use Rattle.ledger.proofs.Picks.{pick-both}
 use borrow.Author.Needs.{needs}
 use Rattle.steps.proofs.answers.answer_of.Statement.{statement}
@@ -27,7 +25,14 @@ add-t5 : tie.Need-add-t5
 add-t5 c = search needs
 
 returns : tie.Need-returns
-returns c = rw (c .before .before .blocks-run .ensures, c .before .compressions-run .ensures) refl
+returns c =
+    let p = c .before .before .before .args .p in
+    λ j. record {
+      number = p .number;
+      delivered = p .deliver + p .stream;
+      blocks = c .before .before .blocks-run .ensures j;
+      compressions = c .before .compressions-run .ensures j;
+    }
 
 pub answer-of-spec : {M : Type 1} → statement M
 answer-of-spec =
