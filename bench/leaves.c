@@ -4,11 +4,10 @@
 #include <stdio.h>
 #include <string.h>
 #include <time.h>
+#include "plain.h"
 
 void leaf_chacha(const uint32_t state[16], uint8_t *out, size_t room);
 void leaf_sha1(uint32_t hash[5], const uint32_t message[16]);
-void plain_chacha(const uint32_t state[16], uint8_t *out);
-void plain_sha1(uint32_t hash[5], const uint32_t message[16]);
 
 enum { BLOCKS = 20000, ROUNDS = 40 };
 

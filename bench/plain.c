@@ -1,6 +1,6 @@
 /* ChaCha20 and SHA-1 written straight from RFC 7539 and FIPS 180-4, as most C programs have them: what the proved code is
    measured against. */
-#include <stdint.h>
+#include "plain.h"
 
 #define ROTL(x, k) (((x) << (k)) | ((x) >> (32 - (k))))
 #define QUARTER(a, b, c, d)                                   \

@@ -1,0 +1,134 @@
+/* The proved keeper and the plain one on the same data in one run: nanoseconds a call, and their ratio. The rounds go to and fro
+   between the two, and the least time of each counts, so that whatever else the machine does weighs little. After every round both
+   records, all answers and both rooms must be the same to the last byte. */
+#define _POSIX_C_SOURCE 200809L
+#include <stdint.h>
+#include <stdio.h>
+#include <string.h>
+#include <time.h>
+
+#include "../include/nk.h"
+#include "plain_keeper.h"
+
+enum { ROUNDS = 40, LENGTH = 4096, BLOCKING_LENGTH = 128, MOST_CALLS = 20000 };
+
+struct keeper_calls {
+    struct nk_answer (*event)(struct nk_keeper *, uint32_t, uint32_t, uint64_t, uint32_t);
+    struct nk_answer (*interrupt)(struct nk_keeper *, uint32_t, uint32_t, uint64_t, uint64_t);
+    struct nk_answer (*write)(struct nk_keeper *, const uint8_t *, size_t);
+    struct nk_answer (*read)(struct nk_keeper *, uint32_t, uint8_t *, size_t);
+    struct nk_answer (*blocking_read)(struct nk_keeper *, uint8_t *, size_t);
+};
+
+/* One side's memory. */
+struct side {
+    struct nk_keeper keeper;
+    uint8_t room[LENGTH];
+    struct nk_answer answers[MOST_CALLS];
+    uint32_t clock;
+    double least;
+};
+
+static struct side sides[2];
+static uint8_t noise[LENGTH];
+
+static double now(void) {
+    struct timespec t;
+    clock_gettime(CLOCK_MONOTONIC, &t);
+    return (double)t.tv_sec * 1e9 + (double)t.tv_nsec;
+}
+
+/* Each workload makes n calls. */
+
+static void events(struct side *s, const struct keeper_calls *c, unsigned n) {
+    for (unsigned i = 0; i < n; i++) {
+        s->clock += 3 + i * i % 61;
+        s->answers[i] = c->event(&s->keeper, i % NK_DEVICES, s->clock, 0x9e3779b97f4a7c15u * (i + 1), i + 1);
+    }
+}
+
+/* the tally is put back, so that the 64th does not spill */
+static void interrupts(struct side *s, const struct keeper_calls *c, unsigned n) {
+    for (unsigned i = 0; i < n; i++) {
+        s->keeper.ledger.tally = 0;
+        s->answers[i] = c->interrupt(
+            &s->keeper, s->keeper.ledger.last_spill + i % 1000, i % 40, 0x9e3779b97f4a7c15u * (i + 1), 0x08000000u + 4 * i);
+    }
+}
+
+static void spills(struct side *s, const struct keeper_calls *c, unsigned n) {
+    for (unsigned i = 0; i < n; i++)
+        s->answers[i] = c->interrupt(
+            &s->keeper, s->keeper.ledger.last_spill + 1001, i % 40, 0x9e3779b97f4a7c15u * (i + 1), 0x08000000u + 4 * i);
+}
+
+static void writes(struct side *s, const struct keeper_calls *c, unsigned n) {
+    for (unsigned i = 0; i < n; i++) s->answers[i] = c->write(&s->keeper, noise, LENGTH);
+}
+
+static void reads(struct side *s, const struct keeper_calls *c, unsigned n) {
+    for (unsigned i = 0; i < n; i++) s->answers[i] = c->read(&s->keeper, s->keeper.ledger.seeding_clock + i, s->room, LENGTH);
+}
+
+/* the counts are put back, so that each read brings 128 bytes over and hands out what they are credited for */
+static void blocking_reads(struct side *s, const struct keeper_calls *c, unsigned n) {
+    for (unsigned i = 0; i < n; i++) {
+        s->keeper.ledger.input_count = 32768;
+        s->keeper.ledger.blocking_count = 0;
+        s->answers[i] = c->blocking_read(&s->keeper, s->room, BLOCKING_LENGTH);
+    }
+}
+
+static const struct workload {
+    const char *name;
+    void (*run)(struct side *, const struct keeper_calls *, unsigned);
+    unsigned calls;
+    struct nk_answer each; /* what every call must answer, so that the work measured is the work meant */
+} workloads[] = {{"device event", events, 20000, {NK_DONE, 0, 0, 0}},
+                 {"interrupt without spill", interrupts, 20000, {NK_DONE, 0, 0, 0}},
+                 {"interrupt with spill", spills, 20000, {NK_DONE, 0, 0, 0}},
+                 {"4,096-byte write", writes, 100, {NK_DONE, 0, 0, 0}},
+                 {"4,096-byte generator read", reads, 200, {NK_DONE, 4096, 65, 0}},
+                 {"128-byte blocking read", blocking_reads, 60, {NK_DONE, 78, 0, 120}}};
+
+static void make_ready(struct nk_keeper *k) {
+    memset(k, 0, sizeof *k);
+    plain_make(k, noise, NK_START_LENGTH);
+    for (int i = 0; i < 4; i++) plain_seed(k, 1000, noise, LENGTH, 8 * LENGTH);
+}
+
+int main(void) {
+    static const struct keeper_calls calls[2] = {{nk_event, nk_interrupt, nk_write, nk_read, nk_blocking_read},
+                                                 {plain_event, plain_interrupt, plain_write, plain_read, plain_blocking_read}};
+    for (size_t i = 0; i < sizeof noise; i++) noise[i] = (uint8_t)(i * 167 + (i >> 3));
+    printf("%-26s %12s %12s %7s\n", "what", "proved ns", "plain ns", "ratio");
+    for (size_t w = 0; w < sizeof workloads / sizeof *workloads; w++) {
+        const struct workload *load = &workloads[w];
+        for (int k = 0; k < 2; k++) {
+            memset(&sides[k], 0, sizeof sides[k]);
+            make_ready(&sides[k].keeper);
+            sides[k].least = 1e18;
+        }
+        for (int round = 0; round < ROUNDS; round++) {
+            for (int turn = 0; turn < 2; turn++) {
+                int k = (round + turn) % 2;
+                double from = now();
+                load->run(&sides[k], &calls[k], load->calls);
+                double each = (now() - from) / load->calls;
+                if (each < sides[k].least) sides[k].least = each;
+            }
+            if (memcmp(&sides[0].keeper, &sides[1].keeper, sizeof sides[0].keeper) || memcmp(sides[0].room, sides[1].room, LENGTH) ||
+                memcmp(sides[0].answers, sides[1].answers, sizeof sides[0].answers)) {
+                printf("FAILED: %s, round %d: the proved and the plain keeper differ\n", load->name, round);
+                return 1;
+            }
+            for (unsigned i = 0; i < load->calls; i++)
+                if (memcmp(&sides[0].answers[i], &load->each, sizeof load->each)) {
+                    printf("FAILED: %s, round %d, call %u: another answer than this measurement is about\n", load->name, round, i);
+                    return 1;
+                }
+        }
+        printf("%-26s %12.1f %12.1f %7.2f\n", load->name, sides[0].least, sides[1].least, sides[0].least / sides[1].least);
+    }
+    return 0;
+}

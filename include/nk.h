@@ -1,0 +1,195 @@
+/* The noise keeper, as C calls it.
+ *
+ * A keeper is one record, struct nk_keeper, that the caller owns and lends to each call; the call changes it in place. There is no
+ * other state: no heap, no globals, nothing to close. nk_make makes a keeper of any memory; the other six calls work on a keeper
+ * that was made.
+ *
+ * What goes in: device events and interrupts (noise that the keeper credits by its own estimate), writes (noise with no credit) and
+ * seeds (noise with the credit that the caller names). What comes out: generator bytes (nk_read), once the keeper has been seeded,
+ * and bytes of the blocking pool (nk_blocking_read), as many as were credited.
+ *
+ * THE ANSWER. Each call returns four numbers by value. `number` is NK_DONE or the reason for a refusal. `delivered` is how many bytes a
+ * read put at the start of its room; 0 for all other calls. `blocks` and `compressions` are the ChaCha20 blocks and SHA-1
+ * compressions that this call ran, whatever they were for: a measure of its time.
+ *
+ * REFUSALS. A refused call leaves the record and the room as they were, to the last byte, and answers 0 for delivered, blocks and
+ * compressions. Where several reasons hold, the number is the first in the order that stands at the call below. NK_OUT_OF_RANGE
+ * comes first everywhere, but for nk_make, which does not look at what the record held.
+ *
+ * NK_OUT_OF_RANGE says that the record is damaged or was never made. It is answered exactly if
+ *   - a count is above its pool's size (input 32,768, blocking 8,192, in eighths of a bit),
+ *   - a position is outside its pool (input 0 to 127, blocking 0 to 31), or a rotation is above 31,
+ *   - the tally is above 63,
+ *   - one of `firsts` is outside -2^31 to 2^31 - 1, or one of `seconds` outside -(2^32 - 1) to 2^32 - 1,
+ *   - one of generator words 0 to 3 is not the cipher's constant.
+ * Every other bit pattern is a keeper in range. No record, whatever its bytes, makes a call do anything undefined. The only cure is
+ * nk_make. The mark `seeded` is not part of this test: 1 is seeded, and any other number is read as unseeded.
+ *
+ * MEMORY. The record wants the alignment of struct nk_keeper, 8 bytes; bytes and rooms want none. No pointer may be null, not even
+ * one that comes with a length of 0. A pointer with a length stands for so many bytes, and all of them must be the caller's, also
+ * where the length is one that will be refused. Record, room and bytes must not overlap. A call writes the record, and the delivered
+ * bytes of a room; it reads the bytes that are fed and keeps no pointer once it has returned.
+ *
+ * THREADS. One caller at a time for each record. An interrupt handler must not call the keeper while a call on the same record is
+ * under way: let it leave its numbers for the main loop, or shut interrupts out around each call. Two records have nothing in common.
+ *
+ * CLOCKS. `now` is a free-running 32-bit clock of 1,000 ticks a second. It may wrap, and it may run back: a difference of two
+ * clocks is taken modulo 2^32 and read as signed.
+ *
+ * STACK AND LINKING. A call uses at most 1,536 bytes of stack on x86-64 (tests/stack.c measures it). It needs the C library's memcpy,
+ * memmove and memset, which a compiler may call, and nothing else.
+ *
+ * SECRETS. The words of the pools, of the fast pool and of the generator are secret, but for the generator's four constants: do not
+ * print, store or send a record. What a call answers depends on the other fields and on the call's numbers and lengths, and never on
+ * a secret word or on a byte that is fed. */
+#ifndef NK_H
+#define NK_H
+
+#include <stddef.h>
+#include <stdint.h>
+
+#ifdef __cplusplus
+#define NK_HOLDS(fact) static_assert(fact, #fact)
+extern "C" {
+#else
+#define NK_HOLDS(fact) _Static_assert(fact, #fact)
+#endif
+
+/* What a call answers. */
+enum {
+    NK_DONE = 0,
+    NK_WOULD_BLOCK = 1,     /* blocking read: neither pool has enough credit. Feed noise, and ask again */
+    NK_UNSEEDED = 2,        /* generator read: never seeded so far. Feed noise, or seed */
+    NK_TOO_LONG = 3,        /* a length over NK_LENGTH_MOST */
+    NK_NO_SUCH_DEVICE = 4,  /* a device over 15 */
+    NK_CREDIT_TOO_HIGH = 5, /* a seed's credit above 8 bits for each of its bytes */
+    NK_START_NOT_48 = 6,    /* a making from another number of bytes than 48 */
+    NK_REPEATED = 7,        /* device 0 told the same value again */
+    NK_OUT_OF_RANGE = 17    /* the record is no keeper's; see above */
+};
+
+enum {
+    NK_DEVICES = 16,
+    NK_START_LENGTH = 48,
+    NK_LENGTH_MOST = 4096 /* of a write, a seed or a read */
+};
+
+/* Where a pool's next byte goes: its position and its rotation. */
+struct nk_spot {
+    uint32_t at;
+    uint32_t turn;
+};
+
+/* The numbers that decide what a call does. Counts are credit in eighths of a bit. */
+struct nk_ledger {
+    uint32_t input_count;
+    uint32_t blocking_count;
+    struct nk_spot input_spot;
+    struct nk_spot blocking_spot;
+    uint32_t last_value; /* device 0's last value */
+    uint32_t tally;      /* interrupts since the last spill into the input pool */
+    uint32_t last_spill; /* its clock */
+    uint32_t seeded;     /* 1: seeded, for good; any other number: unseeded */
+    uint32_t seeding_clock;
+};
+
+/* The record. Fields may be read at any time between calls; a caller that writes them answers for what follows. */
+struct nk_keeper {
+    struct nk_ledger ledger;
+    /* a timer for each device: the clock of its last event, and that event's first and second difference */
+    uint32_t clocks[16];
+    int64_t firsts[16];
+    int64_t seconds[16];
+    /* secret from here on */
+    uint32_t input[128];
+    uint32_t blocking[32];
+    uint32_t fast[4];
+    uint32_t generator[16];
+};
+
+struct nk_answer {
+    uint32_t number;
+    uint32_t delivered;
+    uint32_t blocks;
+    uint32_t compressions;
+};
+
+/* The archive was compiled for this layout; a compiler that lays the record out in another way must not link it. */
+NK_HOLDS(sizeof(struct nk_spot) == 8);
+NK_HOLDS(sizeof(struct nk_ledger) == 44);
+NK_HOLDS(offsetof(struct nk_ledger, input_count) == 0);
+NK_HOLDS(offsetof(struct nk_ledger, blocking_count) == 4);
+NK_HOLDS(offsetof(struct nk_ledger, input_spot) == 8);
+NK_HOLDS(offsetof(struct nk_ledger, blocking_spot) == 16);
+NK_HOLDS(offsetof(struct nk_ledger, last_value) == 24);
+NK_HOLDS(offsetof(struct nk_ledger, tally) == 28);
+NK_HOLDS(offsetof(struct nk_ledger, last_spill) == 32);
+NK_HOLDS(offsetof(struct nk_ledger, seeded) == 36);
+NK_HOLDS(offsetof(struct nk_ledger, seeding_clock) == 40);
+NK_HOLDS(sizeof(struct nk_keeper) == 1088);
+NK_HOLDS(offsetof(struct nk_keeper, ledger) == 0);
+NK_HOLDS(offsetof(struct nk_keeper, clocks) == 44);
+NK_HOLDS(offsetof(struct nk_keeper, firsts) == 112); /* four bytes of padding lie before it */
+NK_HOLDS(offsetof(struct nk_keeper, seconds) == 240);
+NK_HOLDS(offsetof(struct nk_keeper, input) == 368);
+NK_HOLDS(offsetof(struct nk_keeper, blocking) == 880);
+NK_HOLDS(offsetof(struct nk_keeper, fast) == 1008);
+NK_HOLDS(offsetof(struct nk_keeper, generator) == 1024);
+NK_HOLDS(sizeof(struct nk_answer) == 16);
+NK_HOLDS(offsetof(struct nk_answer, number) == 0);
+NK_HOLDS(offsetof(struct nk_answer, delivered) == 4);
+NK_HOLDS(offsetof(struct nk_answer, blocks) == 8);
+NK_HOLDS(offsetof(struct nk_answer, compressions) == 12);
+#undef NK_HOLDS
+
+/* Makes a keeper of the record, whatever the record held: pools, counts, timers and marks zero, unseeded, the generator's key and
+ * counter words from the 48 start bytes. The start bytes should differ from device to device and from start to start; they count
+ * for no credit.
+ * Refused: NK_START_NOT_48. The record then stays as it was, and is a keeper only if it was one before. */
+struct nk_answer nk_make(struct nk_keeper *k, const uint8_t *start, size_t start_len);
+
+/* Something happened on a device: `stamp` is the finest counter at hand, `value` what the device told (a key's code, a sector).
+ * Stamp, clock and value are mixed into the input pool. The credit, 0 to 11 bits, comes from how irregular the device's clocks are,
+ * and from nothing else. An unseeded keeper that is credited at all and then has 128 bits is seeded at once.
+ * Changes the input pool and its count, the device's timer, and for device 0 the last value; where it seeds, the generator's key too.
+ * Refused, in this order: NK_OUT_OF_RANGE; NK_NO_SUCH_DEVICE, device over 15; NK_REPEATED, device 0 with the value of its last event
+ * that was kept (0 at first). */
+struct nk_answer nk_event(struct nk_keeper *k, uint32_t device, uint32_t now, uint64_t stamp, uint32_t value);
+
+/* An interrupt came: its number, and the address of the instruction that it broke into. The numbers are stirred into the fast pool.
+ * At every 64th interrupt, or when more than 1,000 ticks went by since the last time, the fast pool spills into the input pool for a
+ * credit of 1 bit; an unseeded keeper that then has 128 bits is seeded at once. A clock that ran back does not spill.
+ * Refused: NK_OUT_OF_RANGE. */
+struct nk_answer nk_interrupt(struct nk_keeper *k, uint32_t now, uint32_t number, uint64_t stamp, uint64_t address);
+
+/* Mixes `len` bytes, 0 to 4,096, into the input pool, for no credit: bytes that may be known to others do no harm.
+ * Refused, in this order: NK_OUT_OF_RANGE; NK_TOO_LONG. */
+struct nk_answer nk_write(struct nk_keeper *k, const uint8_t *bytes, size_t len);
+
+/* Mixes `len` bytes, 0 to 4,096, into the input pool, then credits the pool with `credit` bits: how much of the bytes nobody can guess.
+ * The count rises by less than was credited, the less the fuller the pool is. An unseeded keeper that has 128 bits of credit after
+ * this is seeded at once; a credit of 0 never seeds.
+ * Refused, in this order: NK_OUT_OF_RANGE; NK_TOO_LONG; NK_CREDIT_TOO_HIGH, credit above 8 x len. */
+struct nk_answer nk_seed(struct nk_keeper *k, uint32_t now, const uint8_t *bytes, size_t len, uint32_t credit);
+
+/* Fills the room with generator bytes: all of it, so `delivered` is `len`. Each read ends by changing the generator's key, so that
+ * a record that is stolen later does not tell what was read. Where more than 300,000 ticks went by since the last seeding and the
+ * input pool has 128 bits, the generator is seeded anew first.
+ * A length of 0 is NK_DONE and changes nothing, seeded or not.
+ * Refused, in this order: NK_OUT_OF_RANGE; NK_TOO_LONG; NK_UNSEEDED. */
+struct nk_answer nk_read(struct nk_keeper *k, uint32_t now, uint8_t *out, size_t len);
+
+/* Hands out bytes of the blocking pool, up to `len` and no more than its credit covers; `delivered` says how many, at least 1 where
+ * `len` is at least 1. Where the blocking pool has too little, bytes are first brought over from the input pool, 8 to 128, if the
+ * input pool has credit for 8. Bytes of the room past the delivered ones keep their contents. It never waits: ask again later for
+ * the rest.
+ * A length of 0 is NK_DONE and changes nothing.
+ * Refused, in this order: NK_OUT_OF_RANGE; NK_TOO_LONG; NK_WOULD_BLOCK, exactly if the blocking count is below 64 and the input count
+ * below 512. */
+struct nk_answer nk_blocking_read(struct nk_keeper *k, uint8_t *out, size_t len);
+
+#ifdef __cplusplus
+}
+#endif
+
+#endif

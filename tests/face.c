@@ -1,0 +1,871 @@
+/* The C test of the keeper: every call of nk.h through the archive, as a C program meets it.
+ *
+ * Each call is made twice from the same record, by the archive and by the plain keeper of bench/plain_keeper.c, in guarded memory;
+ * then every byte is compared. What the header promises is checked by itself as well, so that an error that both share shows. A
+ * group is one line of output; the last line counts the groups. The argument, if any, is the seed of the random calls. */
+#include <inttypes.h>
+#include <stdarg.h>
+#include <stdio.h>
+#include <stdlib.h>
+#include <string.h>
+
+#include "../bench/plain.h"
+#include "../bench/plain_keeper.h"
+#include "../include/nk.h"
+
+enum { GUARD = 64, LONGEST = 5000, SHIFTS = 16, RANDOM_CALLS = 6000, SHOWN = 8 };
+
+/* Groups and checks. */
+
+static unsigned groups_passed, groups_failed, checks, faults;
+static const char *group;
+
+static void begin(const char *name) {
+    group = name;
+    checks = faults = 0;
+}
+
+static void end(void) {
+    if (faults == 0) groups_passed++; else groups_failed++;
+    printf("%s: %s, %u checks", faults ? "FAILED" : "ok", group, checks);
+    if (faults) printf(", %u of them failed", faults);
+    puts("");
+}
+
+static int check(int holds, const char *what, ...) {
+    checks++;
+    if (holds) return 1;
+    if (++faults <= SHOWN) {
+        va_list words;
+        va_start(words, what);
+        printf("  %s: ", group);
+        vprintf(what, words);
+        puts("");
+        va_end(words);
+    }
+    return 0;
+}
+
+/* Random numbers that a seed repeats. */
+
+static uint64_t seed = 7539, chance_at;
+
+static uint64_t chance(void) {
+    uint64_t z = chance_at += 0x9e3779b97f4a7c15u;
+    z = (z ^ z >> 30) * 0xbf58476d1ce4e5b9u;
+    z = (z ^ z >> 27) * 0x94d049bb133111ebu;
+    return z ^ z >> 31;
+}
+
+static uint32_t below(uint32_t n) {
+    return (uint32_t)(chance() >> 32) % n;
+}
+
+/* A call, of either side. */
+
+enum kind { EVENT, INTERRUPT, WRITE, SEED, READ, BLOCKING_READ, MAKE, KINDS = MAKE };
+static const char *const names[] = {"event", "interrupt", "write", "seed", "read", "blocking read", "make"};
+
+struct call {
+    enum kind kind;
+    uint32_t device, now, number, value, credit;
+    uint64_t stamp, address;
+    size_t len;
+};
+
+static int is_read(enum kind kind) {
+    return kind == READ || kind == BLOCKING_READ;
+}
+
+static struct nk_answer proved(struct nk_keeper *k, const struct call *c, uint8_t *bytes) {
+    switch (c->kind) {
+    case EVENT: return nk_event(k, c->device, c->now, c->stamp, c->value);
+    case INTERRUPT: return nk_interrupt(k, c->now, c->number, c->stamp, c->address);
+    case WRITE: return nk_write(k, bytes, c->len);
+    case SEED: return nk_seed(k, c->now, bytes, c->len, c->credit);
+    case READ: return nk_read(k, c->now, bytes, c->len);
+    case BLOCKING_READ: return nk_blocking_read(k, bytes, c->len);
+    default: return nk_make(k, bytes, c->len);
+    }
+}
+
+static struct nk_answer plain(struct nk_keeper *k, const struct call *c, uint8_t *bytes) {
+    switch (c->kind) {
+    case EVENT: return plain_event(k, c->device, c->now, c->stamp, c->value);
+    case INTERRUPT: return plain_interrupt(k, c->now, c->number, c->stamp, c->address);
+    case WRITE: return plain_write(k, bytes, c->len);
+    case SEED: return plain_seed(k, c->now, bytes, c->len, c->credit);
+    case READ: return plain_read(k, c->now, bytes, c->len);
+    case BLOCKING_READ: return plain_blocking_read(k, bytes, c->len);
+    default: return plain_make(k, bytes, c->len);
+    }
+}
+
+/* Lent memory between guards. Records and rooms begin a little further on from call to call, records by 8 bytes and rooms by 1, so
+   that every alignment is met that the header allows. The second guard begins where the record or the room ends. */
+
+enum { RECORD = GUARD + 8 * SHIFTS + (int)sizeof(struct nk_keeper) + GUARD, AREA = GUARD + SHIFTS + LONGEST + GUARD };
+static uint8_t *record_as_lent, *record_proved, *record_plain, *area_as_lent, *area_proved, *area_plain;
+
+static void lend_memory(void) {
+    uint8_t **const records[] = {&record_as_lent, &record_proved, &record_plain};
+    uint8_t **const areas[] = {&area_as_lent, &area_proved, &area_plain};
+    for (int i = 0; i < 3; i++)
+        if (!(*records[i] = malloc(RECORD)) || !(*areas[i] = malloc(AREA))) {
+            puts("FAILED: no memory");
+            exit(1);
+        }
+}
+
+/* All fields alike. The padding between clocks and firsts may be anything where a call was not refused. */
+static int same_fields(const struct nk_keeper *a, const struct nk_keeper *b) {
+    const uint8_t *x = (const uint8_t *)a, *y = (const uint8_t *)b;
+    size_t until = offsetof(struct nk_keeper, clocks) + sizeof a->clocks, from = offsetof(struct nk_keeper, firsts);
+    return memcmp(x, y, until) == 0 && memcmp(x + from, y + from, sizeof *a - from) == 0;
+}
+
+static uint64_t counter(const struct nk_keeper *k) {
+    return (uint64_t)k->generator[13] << 32 | k->generator[12];
+}
+
+/* One call by both sides, on bytes given or, for a read, on a room with random contents. The record becomes the archive's. */
+static struct nk_answer try_on(struct nk_keeper *k, struct call c, const uint8_t *bytes) {
+    static unsigned turn;
+    size_t shift = turn % SHIFTS, here = GUARD + 8 * (turn / 3 % SHIFTS), past = here + sizeof *k;
+    size_t len = c.kind == EVENT || c.kind == INTERRUPT ? 0 : c.len, from = GUARD + shift;
+    char what[160];
+    turn++;
+    snprintf(what, sizeof what, "%s, len %zu, now %u, device %u, credit %u", names[c.kind], c.len, c.now, c.device, c.credit);
+
+    for (size_t i = 0; i < AREA; i++) area_as_lent[i] = (uint8_t)(chance() >> 56);
+    if (bytes) memcpy(area_as_lent + from, bytes, len);
+    memset(record_as_lent, 0xb5, RECORD);
+    memcpy(record_as_lent + here, k, sizeof *k);
+    memcpy(area_proved, area_as_lent, AREA);
+    memcpy(area_plain, area_as_lent, AREA);
+    memcpy(record_proved, record_as_lent, RECORD);
+    memcpy(record_plain, record_as_lent, RECORD);
+
+    struct nk_keeper *l = (struct nk_keeper *)(void *)(record_proved + here), *p = (struct nk_keeper *)(void *)(record_plain + here);
+    struct nk_answer a = proved(l, &c, area_proved + from);
+    struct nk_answer b = plain(p, &c, area_plain + from);
+
+    check(memcmp(&a, &b, sizeof a) == 0, "%s: the archive answers %u %u %u %u, plain C %u %u %u %u",
+          what, a.number, a.delivered, a.blocks, a.compressions, b.number, b.delivered, b.blocks, b.compressions);
+    if (!check(same_fields(l, p), "%s: the records differ", what)) {
+        size_t i = 0;
+        while (record_proved[here + i] == record_plain[here + i]) i++;
+        if (faults <= SHOWN) printf("  %s:   the first byte that differs is %zu\n", group, i);
+    }
+    check(memcmp(area_proved, area_plain, AREA) == 0, "%s: the rooms differ", what);
+    check(
+        memcmp(record_proved, record_as_lent, here) == 0 && memcmp(record_proved + past, record_as_lent + past, RECORD - past) == 0,
+        "%s: written outside the record", what);
+    check(memcmp(area_proved, area_as_lent, from) == 0, "%s: written before the room", what);
+    size_t delivered = is_read(c.kind) ? a.delivered : 0;
+    if (check(delivered <= len, "%s: more delivered than the room holds", what))
+        check(memcmp(area_proved + from + delivered, area_as_lent + from + delivered, AREA - from - delivered) == 0,
+            "%s: written past the delivered bytes", what);
+    if (a.number != NK_DONE) {
+        check(memcmp(record_proved, record_as_lent, RECORD) == 0, "%s: refused, and the record changed", what);
+        check(memcmp(area_proved, area_as_lent, AREA) == 0, "%s: refused, and the room changed", what);
+        check(a.delivered == 0 && a.blocks == 0 && a.compressions == 0, "%s: refused, and work reported", what);
+    }
+    if (c.kind != MAKE) {
+        uint64_t moved = counter(l) - counter(k);
+        check(moved == a.blocks, "%s: the counter moved by %" PRIu64 ", and %u blocks are reported", what, moved, a.blocks);
+    }
+    memcpy(k, l, sizeof *k);
+    return a;
+}
+
+static struct nk_answer try(struct nk_keeper *k, struct call c) {
+    return try_on(k, c, NULL);
+}
+
+static uint32_t number_of(struct nk_keeper k, struct call c) {
+    return try(&k, c).number;
+}
+
+static struct call read_of(size_t len, uint32_t now) {
+    struct call c = {.kind = READ, .now = now, .len = len};
+    return c;
+}
+
+static struct call blocking_read_of(size_t len) {
+    struct call c = {.kind = BLOCKING_READ, .len = len};
+    return c;
+}
+
+static struct call seed_of(size_t len, uint32_t credit, uint32_t now) {
+    struct call c = {.kind = SEED, .len = len, .credit = credit, .now = now};
+    return c;
+}
+
+static struct call write_of(size_t len) {
+    struct call c = {.kind = WRITE, .len = len};
+    return c;
+}
+
+static struct call event_of(uint32_t device, uint32_t now, uint32_t value) {
+    struct call c = {.kind = EVENT, .device = device, .now = now, .value = value, .stamp = 0x0123456789abcdefu};
+    return c;
+}
+
+static struct call interrupt_at(uint32_t now) {
+    struct call c = {.kind = INTERRUPT, .now = now, .number = 7, .stamp = 0xfedcba9876543210u, .address = 0x08001234deadbeefu};
+    return c;
+}
+
+static void make(struct nk_keeper *k) {
+    uint8_t start[NK_START_LENGTH];
+    for (int i = 0; i < NK_START_LENGTH; i++) start[i] = (uint8_t)(3 * i + 1);
+    memset(k, 0, sizeof *k);
+    nk_make(k, start, sizeof start);
+}
+
+/* A made keeper with both pools well filled, seeded at clock 5,000. */
+static void make_ready(struct nk_keeper *k) {
+    uint8_t noise[512];
+    make(k);
+    for (size_t i = 0; i < sizeof noise; i++) noise[i] = (uint8_t)(i * 37 + 11);
+    nk_seed(k, 5000, noise, sizeof noise, 4096);
+    nk_seed(k, 5000, noise, sizeof noise, 4096);
+    k->ledger.blocking_count = 4096;
+    for (int i = 0; i < 32; i++) k->blocking[i] = 0x9e3779b9u * (uint32_t)(i + 1);
+}
+
+static const uint32_t constants[4] = {0x61707865, 0x3320646e, 0x79622d32, 0x6b206574};
+
+/* Any record in range: every field random, edges often. */
+static void random_record(struct nk_keeper *k) {
+    for (int i = 0; i < 128; i++) k->input[i] = (uint32_t)chance();
+    for (int i = 0; i < 32; i++) k->blocking[i] = (uint32_t)chance();
+    for (int i = 0; i < 4; i++) k->fast[i] = (uint32_t)chance();
+    for (int i = 0; i < 16; i++) k->generator[i] = i < 4 ? constants[i] : (uint32_t)chance();
+    if (below(4) == 0) k->generator[12] = 0xffffffffu - below(70);
+    if (below(8) == 0) k->generator[12] = 0xfffffffeu, k->generator[13] = 0xffffffffu;
+    struct nk_ledger *l = &k->ledger;
+    l->input_count = below(3) ? below(32769) : below(2) ? 32768 - below(4) : below(1200);
+    l->blocking_count = below(3) ? below(8193) : below(2) ? 8192 - below(4) : below(130);
+    l->input_spot.at = below(128);
+    l->input_spot.turn = below(32);
+    l->blocking_spot.at = below(32);
+    l->blocking_spot.turn = below(32);
+    l->last_value = below(4);
+    l->tally = below(2) ? below(64) : 63;
+    l->last_spill = (uint32_t)chance();
+    l->seeded = below(4) ? 1 : below(2) ? 0 : (uint32_t)chance();
+    l->seeding_clock = (uint32_t)chance();
+    for (int i = 0; i < 16; i++) {
+        k->clocks[i] = (uint32_t)chance();
+        k->firsts[i] = below(4) ? (int32_t)chance() : below(2) ? INT32_MIN : INT32_MAX;
+        k->seconds[i] = below(4) ? (int64_t)(chance() >> 32) - (int64_t)(chance() >> 32) : below(2) ? -4294967295 : 4294967295;
+    }
+}
+
+/* One way to be out of range; 0 where there is no such way. */
+static int damage(struct nk_keeper *k, unsigned way) {
+    struct nk_ledger *l = &k->ledger;
+    switch (way) {
+    case 0: l->input_count = 32769; return 1;
+    case 1: l->input_count = UINT32_MAX; return 1;
+    case 2: l->blocking_count = 8193; return 1;
+    case 3: l->blocking_count = UINT32_MAX; return 1;
+    case 4: l->input_spot.at = 128; return 1;
+    case 5: l->input_spot.at = UINT32_MAX; return 1;
+    case 6: l->blocking_spot.at = 32; return 1;
+    case 7: l->blocking_spot.at = UINT32_MAX; return 1;
+    case 8: l->input_spot.turn = 32; return 1;
+    case 9: l->input_spot.turn = UINT32_MAX; return 1;
+    case 10: l->blocking_spot.turn = 32; return 1;
+    case 11: l->blocking_spot.turn = UINT32_MAX; return 1;
+    case 12: l->tally = 64; return 1;
+    case 13: l->tally = UINT32_MAX; return 1;
+    default: way -= 14;
+    }
+    static const int64_t firsts[4] = {-2147483649, 2147483648, INT64_MIN, INT64_MAX};
+    static const int64_t seconds[4] = {-4294967296, 4294967296, INT64_MIN, INT64_MAX};
+    if (way < 64) { k->firsts[way / 4] = firsts[way % 4]; return 1; }
+    way -= 64;
+    if (way < 64) { k->seconds[way / 4] = seconds[way % 4]; return 1; }
+    way -= 64;
+    if (way < 128) { k->generator[way / 32] ^= 1u << way % 32; return 1; }
+    way -= 128;
+    if (way < 4) { k->generator[way] = 0; return 1; }
+    return 0;
+}
+
+/* One field at the very edge of its range; 0 where there is no such way. */
+static int edge(struct nk_keeper *k, unsigned way) {
+    struct nk_ledger *l = &k->ledger;
+    switch (way) {
+    case 0: l->input_count = 32768; return 1;
+    case 1: l->input_count = 0; return 1;
+    case 2: l->blocking_count = 8192; return 1;
+    case 3: l->blocking_count = 0; return 1;
+    case 4: l->input_spot.at = 127; return 1;
+    case 5: l->blocking_spot.at = 31; return 1;
+    case 6: l->input_spot.turn = 31; return 1;
+    case 7: l->blocking_spot.turn = 31; return 1;
+    case 8: l->tally = 63; return 1;
+    case 9: l->seeded = 0; return 1;
+    case 10: l->seeded = 2; return 1;
+    case 11: l->seeded = UINT32_MAX; return 1;
+    case 12: l->seeded = 0x100; return 1;
+    case 13: memset(k->generator + 4, 0xff, 48); return 1;
+    case 14: memset(k->input, 0xff, sizeof k->input); return 1;
+    case 15: memset(k->clocks, 0xff, sizeof k->clocks); return 1;
+    default: way -= 16;
+    }
+    if (way < 32) { k->firsts[way / 2] = way % 2 ? INT32_MAX : INT32_MIN; return 1; }
+    way -= 32;
+    if (way < 32) { k->seconds[way / 2] = way % 2 ? 4294967295 : -4294967295; return 1; }
+    return 0;
+}
+
+/* The groups. */
+
+#define OFFSET(type, field, at) check(offsetof(type, field) == (at), #field " lies at %zu", offsetof(type, field))
+
+static void layout(void) {
+    begin("sizes and offsets");
+    check(sizeof(struct nk_spot) == 8, "struct nk_spot has %zu bytes", sizeof(struct nk_spot));
+    check(sizeof(struct nk_ledger) == 44, "struct nk_ledger has %zu bytes", sizeof(struct nk_ledger));
+    check(sizeof(struct nk_keeper) == 1088, "struct nk_keeper has %zu bytes", sizeof(struct nk_keeper));
+    check(sizeof(struct nk_answer) == 16, "struct nk_answer has %zu bytes", sizeof(struct nk_answer));
+    check(_Alignof(struct nk_keeper) == 8, "struct nk_keeper is aligned at %zu", _Alignof(struct nk_keeper));
+    OFFSET(struct nk_spot, at, 0);
+    OFFSET(struct nk_spot, turn, 4);
+    OFFSET(struct nk_ledger, input_count, 0);
+    OFFSET(struct nk_ledger, blocking_count, 4);
+    OFFSET(struct nk_ledger, input_spot, 8);
+    OFFSET(struct nk_ledger, blocking_spot, 16);
+    OFFSET(struct nk_ledger, last_value, 24);
+    OFFSET(struct nk_ledger, tally, 28);
+    OFFSET(struct nk_ledger, last_spill, 32);
+    OFFSET(struct nk_ledger, seeded, 36);
+    OFFSET(struct nk_ledger, seeding_clock, 40);
+    OFFSET(struct nk_keeper, ledger, 0);
+    OFFSET(struct nk_keeper, clocks, 44);
+    OFFSET(struct nk_keeper, firsts, 112);
+    OFFSET(struct nk_keeper, seconds, 240);
+    OFFSET(struct nk_keeper, input, 368);
+    OFFSET(struct nk_keeper, blocking, 880);
+    OFFSET(struct nk_keeper, fast, 1008);
+    OFFSET(struct nk_keeper, generator, 1024);
+    OFFSET(struct nk_answer, number, 0);
+    OFFSET(struct nk_answer, delivered, 4);
+    OFFSET(struct nk_answer, blocks, 8);
+    OFFSET(struct nk_answer, compressions, 12);
+
+    /* the archive's own layout: each field is told from its neighbours by what one call does to it */
+    struct nk_keeper k;
+    make(&k);
+    nk_event(&k, 0, 77, 1, 99);
+    check(k.ledger.last_value == 99, "the value of device 0 is not in last_value");
+    for (uint32_t d = 0; d < 16; d++) {
+        make(&k);
+        nk_event(&k, d, 1000 + d, 1, 99);
+        for (uint32_t e = 0; e < 16; e++) {
+            check(k.clocks[e] == (e == d ? 1000 + d : 0), "device %u: clocks[%u]", d, e);
+            check(k.firsts[e] == (e == d ? 1000 + d : 0), "device %u: firsts[%u]", d, e);
+            check(k.seconds[e] == (e == d ? 1000 + d : 0), "device %u: seconds[%u]", d, e);
+        }
+    }
+    make(&k);
+    nk_interrupt(&k, 900, 1, 2, 3);
+    check(k.ledger.tally == 1 && k.ledger.last_spill == 0, "the tally after one interrupt");
+    nk_interrupt(&k, 1001, 1, 2, 3);
+    check(k.ledger.tally == 0 && k.ledger.last_spill == 1001 && k.ledger.input_count == 6, "the marks after a spill");
+    check(k.ledger.input_spot.at == 112 && k.ledger.input_spot.turn == 16 * 7 % 32, "the input pool's spot after 16 bytes");
+    check(k.ledger.blocking_spot.at == 0 && k.ledger.blocking_spot.turn == 0, "the blocking pool's spot before anything");
+    end();
+}
+
+static void yardsticks(void) {
+    begin("the plain ciphers, by their published vectors");
+    static const uint32_t digest[5] = {0xa9993e36, 0x4706816a, 0xba3e2571, 0x7850c26c, 0x9cd0d89d};
+    uint32_t hash[5] = {0x67452301, 0xefcdab89, 0x98badcfe, 0x10325476, 0xc3d2e1f0}, message[16] = {0x61626380};
+    message[15] = 24;
+    plain_sha1(hash, message);
+    check(memcmp(hash, digest, sizeof hash) == 0, "SHA-1 of abc");
+
+    /* RFC 7539, 2.3.2: also the first 64 bytes of a generator that was started from its key, counter and nonce */
+    static const uint8_t block[64] = {0x10, 0xf1, 0xe7, 0xe4, 0xd1, 0x3b, 0x59, 0x15, 0x50, 0x0f, 0xdd, 0x1f, 0xa3, 0x20, 0x71,
+        0xc4, 0xc7, 0xd1, 0xf4, 0xc7, 0x33, 0xc0, 0x68, 0x03, 0x04, 0x22, 0xaa, 0x9a, 0xc3, 0xd4, 0x6c, 0x4e, 0xd2, 0x82, 0x64,
+        0x46, 0x07, 0x9f, 0xaa, 0x09, 0x14, 0xc2, 0xd7, 0x05, 0xd9, 0x8b, 0x02, 0xa2, 0xb5, 0x12, 0x9c, 0xd1, 0xde, 0x16, 0x4e,
+        0xb9, 0xcb, 0xd0, 0x83, 0xe8, 0xa2, 0x50, 0x3c, 0x4e};
+    static const uint8_t tail[16] = {1, 0, 0, 0, 0, 0, 0, 9, 0, 0, 0, 0x4a};
+    uint8_t start[NK_START_LENGTH], out[64];
+    for (uint8_t i = 0; i < 32; i++) start[i] = i;
+    memcpy(start + 32, tail, sizeof tail);
+    struct nk_keeper k = {0};
+    nk_make(&k, start, sizeof start);
+    plain_chacha(k.generator, out);
+    check(memcmp(out, block, 64) == 0, "the plain ChaCha20 block");
+    k.ledger.seeded = 1;
+    struct nk_answer a = nk_read(&k, 0, out, 64);
+    check(a.number == NK_DONE && a.delivered == 64 && a.blocks == 2, "a read of 64 bytes");
+    check(memcmp(out, block, 64) == 0, "the keeper's first block is not the RFC's");
+    end();
+}
+
+static void making(void) {
+    begin("making");
+    static const size_t wrong[] = {0, 1, 16, 47, 49, 64, 96, 4096, 4097};
+    struct nk_keeper k, before;
+    uint8_t start[NK_START_LENGTH];
+    for (int i = 0; i < 20; i++) {
+        /* out of any bytes, also out of a record that is out of range */
+        for (size_t j = 0; j < sizeof k; j++) ((uint8_t *)&k)[j] = (uint8_t)(chance() >> 40);
+        memcpy(&before, &k, sizeof k);
+        for (size_t w = 0; w < sizeof wrong / sizeof *wrong; w++) {
+            struct call c = {.kind = MAKE, .len = wrong[w]};
+            struct nk_answer a = try(&k, c);
+            check(a.number == NK_START_NOT_48, "a start of %zu bytes is answered %u", wrong[w], a.number);
+            check(memcmp(&k, &before, sizeof k) == 0, "a start of %zu bytes changed the record", wrong[w]);
+        }
+        for (int j = 0; j < NK_START_LENGTH; j++) start[j] = (uint8_t)(chance() >> 40);
+        struct call c = {.kind = MAKE, .len = NK_START_LENGTH};
+        struct nk_answer a = try_on(&k, c, start);
+        check(a.number == NK_DONE && a.delivered == 0 && a.blocks == 0 && a.compressions == 0, "a making is answered %u", a.number);
+        struct nk_keeper fresh;
+        memset(&fresh, 0, sizeof fresh);
+        memcpy(fresh.generator, constants, sizeof constants);
+        for (int j = 0; j < 12; j++)
+            fresh.generator[4 + j] = start[4 * j] | (uint32_t)start[4 * j + 1] << 8 | (uint32_t)start[4 * j + 2] << 16 |
+                                     (uint32_t)start[4 * j + 3] << 24;
+        check(same_fields(&k, &fresh), "the record made is not the fresh one");
+    }
+    end();
+}
+
+static void refusals(void) {
+    begin("refusals, and reads of length 0");
+    struct nk_keeper fresh, ready, k;
+    make(&fresh);
+    make_ready(&ready);
+
+    /* 1, at its exact thresholds */
+    for (uint32_t blocking = 62; blocking <= 65; blocking++)
+        for (uint32_t input = 510; input <= 513; input++) {
+            static const size_t lens[] = {1, 2, 7, 8, 9, 128, 129, 4096};
+            for (size_t i = 0; i < sizeof lens / sizeof *lens; i++) {
+                k = ready;
+                k.ledger.blocking_count = blocking;
+                k.ledger.input_count = input;
+                struct nk_answer a = try(&k, blocking_read_of(lens[i]));
+                int blocks = blocking < 64 && input < 512;
+                check(a.number == (blocks ? NK_WOULD_BLOCK : NK_DONE), "counts %u and %u, blocking read of %zu: %u", input,
+                    blocking, lens[i], a.number);
+                check(blocks ? a.delivered == 0 : a.delivered >= 1, "counts %u and %u, blocking read of %zu delivers %u", input,
+                    blocking, lens[i], a.delivered);
+            }
+        }
+    check(number_of(fresh, blocking_read_of(1)) == NK_WOULD_BLOCK, "a blocking read of a fresh keeper");
+
+    /* 2, by every mark but 1 */
+    static const uint32_t marks[] = {0, 2, 3, 0x80, 0x100, 0x101, 0x10001, 0x1000000, 0x1000001, 0x80000001, 0xfffffffe, 0xffffffff};
+    check(number_of(fresh, read_of(4, 0)) == NK_UNSEEDED, "a read of a fresh keeper");
+    for (size_t i = 0; i < sizeof marks / sizeof *marks; i++) {
+        k = ready;
+        k.ledger.seeded = marks[i];
+        check(number_of(k, read_of(1, 5000)) == NK_UNSEEDED, "a read with the mark %u", marks[i]);
+        check(number_of(k, read_of(4096, 400000)) == NK_UNSEEDED, "a long read with the mark %u, a reseed overdue", marks[i]);
+        check(number_of(k, read_of(0, 5000)) == NK_DONE, "a read of 0 with the mark %u", marks[i]);
+        check(number_of(k, read_of(4097, 5000)) == NK_TOO_LONG, "a read of 4,097 with the mark %u", marks[i]);
+        struct nk_answer a = try(&k, seed_of(32, 1, 6000));
+        check(a.number == NK_DONE && k.ledger.seeded == 1 && k.ledger.seeding_clock == 6000, "the mark %u is not seeded by a seed",
+            marks[i]);
+    }
+    check(number_of(ready, read_of(4, 5000)) == NK_DONE, "a read of a seeded keeper");
+
+    /* 3, before 5, 1 and 2 */
+    static const size_t lengths[] = {4097, 4098, 4999, LONGEST};
+    for (size_t i = 0; i < sizeof lengths / sizeof *lengths; i++) {
+        check(number_of(ready, write_of(lengths[i])) == NK_TOO_LONG, "a write of %zu", lengths[i]);
+        check(number_of(ready, seed_of(lengths[i], 0, 0)) == NK_TOO_LONG, "a seed of %zu", lengths[i]);
+        check(number_of(ready, seed_of(lengths[i], UINT32_MAX, 0)) == NK_TOO_LONG, "a seed of %zu with too much credit", lengths[i]);
+        check(number_of(ready, read_of(lengths[i], 5000)) == NK_TOO_LONG, "a read of %zu", lengths[i]);
+        check(number_of(fresh, read_of(lengths[i], 0)) == NK_TOO_LONG, "a read of %zu, unseeded", lengths[i]);
+        check(number_of(ready, blocking_read_of(lengths[i])) == NK_TOO_LONG, "a blocking read of %zu", lengths[i]);
+        check(number_of(fresh, blocking_read_of(lengths[i])) == NK_TOO_LONG, "a blocking read of %zu, pools empty", lengths[i]);
+    }
+    check(number_of(ready, write_of(4096)) == NK_DONE && number_of(ready, write_of(0)) == NK_DONE, "writes of 4,096 and of 0");
+
+    /* 4 */
+    static const uint32_t devices[] = {16, 17, 31, 32, 255, 256, 0x10000, 0x80000000, UINT32_MAX};
+    for (size_t i = 0; i < sizeof devices / sizeof *devices; i++)
+        check(number_of(ready, event_of(devices[i], 9, 5)) == NK_NO_SUCH_DEVICE, "device %u", devices[i]);
+    for (uint32_t d = 1; d < 16; d++) check(number_of(ready, event_of(d, 9, 0)) == NK_DONE, "device %u", d);
+
+    /* 5 */
+    static const size_t seeds[] = {0, 1, 2, 31, 32, 4095, 4096};
+    for (size_t i = 0; i < sizeof seeds / sizeof *seeds; i++) {
+        uint32_t most = 8 * (uint32_t)seeds[i];
+        check(number_of(ready, seed_of(seeds[i], most, 0)) == NK_DONE, "a seed of %zu with its highest credit", seeds[i]);
+        check(number_of(ready, seed_of(seeds[i], most + 1, 0)) == NK_CREDIT_TOO_HIGH, "a seed of %zu with a bit more", seeds[i]);
+        check(number_of(ready, seed_of(seeds[i], UINT32_MAX, 0)) == NK_CREDIT_TOO_HIGH, "a seed of %zu with the most credit", seeds[i]);
+        check(number_of(ready, seed_of(seeds[i], 0x20000000, 0)) == NK_CREDIT_TOO_HIGH,
+            "a seed of %zu with a credit that is 0 in eighths", seeds[i]);
+    }
+
+    /* 7: device 0 alone, against the value last kept */
+    k = fresh;
+    check(try(&k, event_of(0, 5, 0)).number == NK_REPEATED, "value 0 on a fresh keeper");
+    check(try(&k, event_of(0, 5, 8)).number == NK_DONE, "value 8");
+    check(try(&k, event_of(0, 6, 8)).number == NK_REPEATED, "value 8 again");
+    check(try(&k, event_of(3, 6, 8)).number == NK_DONE, "value 8 on device 3");
+    check(try(&k, event_of(3, 7, 8)).number == NK_DONE, "value 8 on device 3 again");
+    check(try(&k, event_of(3, 7, 9)).number == NK_DONE && k.ledger.last_value == 8, "device 3 leaves the value of device 0");
+    check(try(&k, event_of(16, 7, 8)).number == NK_NO_SUCH_DEVICE, "device 16");
+    check(try(&k, event_of(0, 7, 8)).number == NK_REPEATED, "value 8 once more");
+    check(try(&k, event_of(0, 7, 0)).number == NK_DONE, "value 0 after 8");
+    check(try(&k, event_of(0, 7, 8)).number == NK_DONE, "value 8 after 0");
+
+    /* length 0 */
+    struct nk_keeper *const both[2] = {&fresh, &ready};
+    for (int i = 0; i < 2; i++) {
+        k = *both[i];
+        check(try(&k, read_of(0, 5000)).number == NK_DONE, "a read of 0");
+        check(try(&k, read_of(0, 400000)).number == NK_DONE, "a read of 0, a reseed overdue");
+        check(try(&k, blocking_read_of(0)).number == NK_DONE, "a blocking read of 0");
+        check(same_fields(&k, both[i]), "reads of 0 changed the record");
+    }
+    end();
+}
+
+/* Calls to try on a damaged record: good ones, and ones that would be refused for another reason. */
+static const struct call at_damage[] = {
+    {.kind = EVENT, .device = 0, .now = 9000, .value = 5, .stamp = 77},
+    {.kind = EVENT, .device = 15, .now = 9000, .value = 5, .stamp = 77},
+    {.kind = EVENT, .device = 16, .now = 9000},
+    {.kind = EVENT, .device = 0, .value = 0},
+    {.kind = INTERRUPT, .now = 900, .number = 3, .stamp = 77, .address = 88},
+    {.kind = INTERRUPT, .now = 9000, .number = 3, .stamp = 77, .address = 88},
+    {.kind = WRITE, .len = 40},
+    {.kind = WRITE, .len = 0},
+    {.kind = WRITE, .len = 4097},
+    {.kind = SEED, .len = 40, .credit = 300, .now = 9000},
+    {.kind = SEED, .len = 0},
+    {.kind = SEED, .len = 4097},
+    {.kind = SEED, .len = 1, .credit = 9},
+    {.kind = READ, .len = 40, .now = 9000},
+    {.kind = READ, .len = 40, .now = 900000},
+    {.kind = READ, .len = 0},
+    {.kind = READ, .len = 4097},
+    {.kind = BLOCKING_READ, .len = 40},
+    {.kind = BLOCKING_READ, .len = 128},
+    {.kind = BLOCKING_READ, .len = 0},
+    {.kind = BLOCKING_READ, .len = 4097},
+};
+
+static void out_of_range(void) {
+    begin("out of range, one field at a time, at every call");
+    struct nk_keeper ready, k;
+    make_ready(&ready);
+    for (unsigned unseeded = 0; unseeded < 2; unseeded++)
+        for (unsigned way = 0;; way++) {
+            k = ready;
+            k.ledger.seeded = !unseeded;
+            if (!damage(&k, way)) break;
+            struct nk_keeper damaged = k;
+            for (size_t i = 0; i < sizeof at_damage / sizeof *at_damage; i++) {
+                struct nk_answer a = try(&k, at_damage[i]);
+                check(a.number == NK_OUT_OF_RANGE, "damage %u, %s of %zu: answered %u", way, names[at_damage[i].kind],
+                    at_damage[i].len, a.number);
+                check(same_fields(&k, &damaged), "damage %u, %s of %zu: the record changed", way, names[at_damage[i].kind],
+                    at_damage[i].len);
+                k = damaged;
+            }
+        }
+    end();
+
+    begin("at the edge of the range, one field at a time, at every call");
+    for (unsigned way = 0;; way++) {
+        struct nk_keeper on_edge = ready;
+        if (!edge(&on_edge, way)) break;
+        for (size_t i = 0; i < sizeof at_damage / sizeof *at_damage; i++) {
+            k = on_edge;
+            struct nk_answer a = try(&k, at_damage[i]);
+            check(a.number != NK_OUT_OF_RANGE, "edge %u, %s of %zu: answered 17", way, names[at_damage[i].kind], at_damage[i].len);
+            check(number_of(k, write_of(0)) == NK_DONE, "edge %u, %s of %zu: out of range afterwards", way,
+                names[at_damage[i].kind], at_damage[i].len);
+        }
+        /* every device, so that each timer takes part in a difference at the end of its range */
+        for (uint32_t d = 0; d < 16; d++) {
+            static const uint32_t steps[] = {0, 1, 0x7fffffff, 0x80000000, 0xffffffff};
+            for (size_t i = 0; i < sizeof steps / sizeof *steps; i++) {
+                k = on_edge;
+                check(number_of(k, event_of(d, k.clocks[d] + steps[i], 5)) == NK_DONE, "edge %u, device %u", way, d);
+            }
+        }
+    }
+    end();
+}
+
+#define ANSWERED(a, n, d, b, c)                                                                      \
+    check((a).number == (n) && (a).delivered == (d) && (a).blocks == (b) && (a).compressions == (c), \
+        "line %d: answered %u %u %u %u", __LINE__, (a).number, (a).delivered, (a).blocks, (a).compressions)
+#define COUNTS(k, i, b)                                                      \
+    check((k).ledger.input_count == (i) && (k).ledger.blocking_count == (b), \
+        "line %d: counts %u %u", __LINE__, (k).ledger.input_count, (k).ledger.blocking_count)
+
+static void worked_cases(void) {
+    begin("worked cases, by their numbers");
+    struct nk_keeper k;
+    struct nk_answer a;
+    make(&k);
+    a = try(&k, event_of(1, 1024, 0));
+    ANSWERED(a, NK_DONE, 0, 0, 0);
+    COUNTS(k, 60, 0);
+
+    make(&k);
+    a = try(&k, seed_of(22, 170, 7));
+    ANSWERED(a, NK_DONE, 0, 0, 0);
+    COUNTS(k, 1020, 0);
+    check(k.ledger.seeded == 0, "170 bits seed");
+    make(&k);
+    a = try(&k, seed_of(22, 171, 7));
+    ANSWERED(a, NK_DONE, 0, 0, 16);
+    COUNTS(k, 2, 0);
+    check(k.ledger.seeded == 1 && k.ledger.seeding_clock == 7, "171 bits do not seed");
+    make(&k);
+    a = try(&k, seed_of(32, 256, 7));
+    ANSWERED(a, NK_DONE, 0, 0, 24);
+    COUNTS(k, 0, 0);
+    make(&k);
+    a = try(&k, seed_of(512, 4096, 7));
+    ANSWERED(a, NK_DONE, 0, 0, 32);
+    COUNTS(k, 17920, 0);
+    struct nk_keeper seeded = k;
+    a = try(&k, blocking_read_of(16));
+    ANSWERED(a, NK_DONE, 12, 0, 20);
+    COUNTS(k, 16896, 0);
+
+    static const struct { size_t len; uint32_t blocks; } streams[] = {
+        {1, 1}, {32, 1}, {33, 2}, {64, 2}, {65, 2}, {96, 2}, {97, 3}, {128, 3}, {4096, 65}};
+    for (size_t i = 0; i < sizeof streams / sizeof *streams; i++) {
+        k = seeded;
+        a = try(&k, read_of(streams[i].len, 7));
+        ANSWERED(a, NK_DONE, streams[i].len, streams[i].blocks, 0);
+    }
+
+    /* a reseed comes at 300,001 ticks and not at 300,000, and not by a clock that ran back */
+    k = seeded;
+    a = try(&k, read_of(32, 300007));
+    ANSWERED(a, NK_DONE, 32, 1, 0);
+    a = try(&k, read_of(32, 6));
+    ANSWERED(a, NK_DONE, 32, 1, 0);
+    a = try(&k, read_of(32, 7 + 0x80000000u));
+    ANSWERED(a, NK_DONE, 32, 1, 0);
+    a = try(&k, read_of(32, 300008));
+    ANSWERED(a, NK_DONE, 32, 1, 32);
+    COUNTS(k, 15872, 0);
+    check(k.ledger.seeding_clock == 300008, "the seeding clock after a reseed");
+    k.ledger.input_count = 1023;
+    a = try(&k, read_of(32, 700000));
+    ANSWERED(a, NK_DONE, 32, 1, 0);
+    check(k.ledger.seeding_clock == 300008 && k.ledger.input_count == 1023, "a reseed from 1,023 units");
+    k.ledger.input_count = 1024 + 64;
+    a = try(&k, read_of(32, 700000));
+    ANSWERED(a, NK_DONE, 32, 1, 16);
+    COUNTS(k, 0, 0);
+
+    /* a spill comes at 1,001 ticks and not at 1,000, at the 64th interrupt, and not by a clock that ran back */
+    make(&k);
+    for (uint32_t i = 1; i <= 63; i++) {
+        a = try(&k, interrupt_at(i == 5 ? 0xffffff00u : i == 6 ? 0x80000000u : 1000));
+        check(k.ledger.tally == i && k.ledger.input_count == 0, "interrupt %u spilt", i);
+    }
+    a = try(&k, interrupt_at(1000));
+    check(k.ledger.tally == 0 && k.ledger.last_spill == 1000, "interrupt 64 did not spill");
+    COUNTS(k, 6, 0);
+    a = try(&k, interrupt_at(2000));
+    check(k.ledger.tally == 1, "1,000 ticks spill");
+    a = try(&k, interrupt_at(2001));
+    check(k.ledger.tally == 0 && k.ledger.last_spill == 2001, "1,001 ticks do not spill");
+
+    /* the estimate, by a device that was still before: 0, 0, 1, 1, 2, then 10, 11, 11 */
+    static const struct { uint32_t clock, bits; } estimates[] = {
+        {0, 0}, {1, 0}, {2, 1}, {3, 1}, {4, 2}, {2047, 10}, {2048, 11}, {4096, 11}, {0x80000000, 11}, {0xffffffff, 0}, {0xfffffffe, 1}};
+    for (size_t i = 0; i < sizeof estimates / sizeof *estimates; i++) {
+        make(&k);
+        a = try(&k, event_of(2, estimates[i].clock, 1));
+        COUNTS(k, estimates[i].bits * 8 * 3 / 4, 0);
+    }
+
+    /* the first seeding comes at a count of 1,024 and not at 1,023, whatever credited it; a credit of 0 seeds nothing */
+    for (uint32_t count = 1018; count <= 1019; count++) {
+        const struct call credits[] = {seed_of(1, 1, 50), interrupt_at(2000), event_of(4, 2, 1)};
+        for (size_t i = 0; i < sizeof credits / sizeof *credits; i++) {
+            make(&k);
+            k.ledger.input_count = count;
+            a = try(&k, credits[i]);
+            ANSWERED(a, NK_DONE, 0, 0, count == 1019 ? 16 : 0);
+            COUNTS(k, count == 1019 ? 0 : 1023, 0);
+            check(k.ledger.seeded == (count == 1019), "1 bit onto %u units by %s seeds, or not", count, names[credits[i].kind]);
+        }
+    }
+    make(&k);
+    k.ledger.input_count = 32768;
+    a = try(&k, seed_of(16, 0, 50));
+    ANSWERED(a, NK_DONE, 0, 0, 0);
+    check(k.ledger.seeded == 0 && k.ledger.input_count == 32768, "a credit of 0 bits onto a full pool");
+
+    /* crediting near the top: turns go on up to two below the size, and a count never passes it */
+    for (uint32_t count = 32752; count <= 32768; count++)
+        for (uint32_t bits = 1024; bits <= 32768; bits += 1024) {
+            k = seeded;
+            k.ledger.input_count = count;
+            a = try(&k, seed_of(4096, bits, 7));
+            check(k.ledger.input_count >= count && k.ledger.input_count <= 32768, "%u bits onto %u", bits, count);
+        }
+    k = seeded;
+    k.ledger.input_count = 32764;
+    a = try(&k, seed_of(4096, 2048, 7));
+    COUNTS(k, 32765, 0);
+    a = try(&k, seed_of(4096, 2048, 7));
+    COUNTS(k, 32766, 0);
+    k.ledger.input_count = 32764;
+    a = try(&k, seed_of(4096, 4096, 7));
+    COUNTS(k, 32766, 0);
+
+    /* the counter runs over into word 13, and past both */
+    k = seeded;
+    k.generator[12] = 0xffffffff;
+    a = try(&k, read_of(64, 7));
+    check(k.generator[12] == 1 && k.generator[13] == seeded.generator[13] + 1, "the counter's carry");
+    k.generator[12] = k.generator[13] = 0xffffffff;
+    a = try(&k, read_of(32, 7));
+    check(k.generator[12] == 0 && k.generator[13] == 0, "the counter's end");
+    end();
+}
+
+/* 0 to 300, then 4,095 to 4,097 */
+static size_t next_length(size_t len) {
+    return len == 300 ? 4095 : len + 1;
+}
+
+static void lengths(void) {
+    struct nk_keeper ready, k;
+    make_ready(&ready);
+    begin("reads of every length");
+    for (size_t len = 0; len <= 4097; len = next_length(len)) {
+        uint32_t number = len > 4096 ? NK_TOO_LONG : NK_DONE, delivered = len > 4096 ? 0 : (uint32_t)len;
+        for (unsigned overdue = 0; overdue < 2; overdue++) {
+            k = ready;
+            struct nk_answer a = try(&k, read_of(len, overdue ? 400000 : 5000));
+            check(a.number == number && a.delivered == delivered, "a read of %zu: %u, %u delivered", len, a.number, a.delivered);
+            check(len == 0 || len > 4096 || memcmp(k.generator + 4, ready.generator + 4, 32) != 0, "a read of %zu keeps the key", len);
+        }
+    }
+    end();
+    begin("blocking reads of every length");
+    for (size_t len = 0; len <= 4097; len = next_length(len)) {
+        static const uint32_t blocking[] = {0, 63, 64, 1000, 4096, 8192};
+        for (size_t i = 0; i < sizeof blocking / sizeof *blocking; i++) {
+            k = ready;
+            k.ledger.blocking_count = blocking[i];
+            if (len % 3 == 1) k.ledger.input_count = 512 + (uint32_t)len;
+            if (len % 3 == 2 && i > 1) k.ledger.input_count = 511;
+            struct nk_answer a = try(&k, blocking_read_of(len));
+            check(a.number == (len > 4096 ? NK_TOO_LONG : NK_DONE) && a.delivered <= len,
+                "a blocking read of %zu: %u, %u delivered", len, a.number, a.delivered);
+            check(len == 0 || len > 4096 || a.delivered >= 1, "a blocking read of %zu delivers nothing", len);
+            check(len > 4096 || 64 * (uint64_t)len > blocking[i] || a.delivered == len,
+                "a blocking read of %zu is not served in full", len);
+        }
+    }
+    end();
+    begin("writes and seeds of every length");
+    for (size_t len = 0; len <= 4097; len = next_length(len)) {
+        k = ready;
+        check(try(&k, write_of(len)).number == (len > 4096 ? NK_TOO_LONG : NK_DONE), "a write of %zu", len);
+        check(k.ledger.input_count == ready.ledger.input_count, "a write of %zu is credited", len);
+        make(&k);
+        check(try(&k, seed_of(len, 8 * (uint32_t)len, 50)).number == (len > 4096 ? NK_TOO_LONG : NK_DONE), "a seed of %zu", len);
+        make(&k);
+        check(try(&k, seed_of(len, (uint32_t)len / 2, 50)).number == (len > 4096 ? NK_TOO_LONG : NK_DONE),
+            "a seed of %zu with less credit", len);
+    }
+    end();
+}
+
+/* A clock that is near what the record compares it with, more often than not. */
+static uint32_t random_now(uint32_t since, uint32_t limit) {
+    switch (below(6)) {
+    case 0: return since + limit;
+    case 1: return since + limit + 1;
+    case 2: return since + below(limit);
+    case 3: return since - 1 - below(5000);
+    case 4: return since + 0x7fffffff + below(3);
+    default: return (uint32_t)chance();
+    }
+}
+
+static size_t random_length(void) {
+    return below(8) == 0 ? 4090 + below(10) : below(4) ? below(140) : below(1100);
+}
+
+static void random_calls(void) {
+    unsigned seen[8] = {0}, damaged = 0;
+    char name[80];
+    snprintf(name, sizeof name, "%d random calls, seed %" PRIu64, RANDOM_CALLS, seed);
+    begin(name);
+    struct nk_keeper k;
+    make(&k);
+    for (int n = 0; n < RANDOM_CALLS; n++) {
+        unsigned fresh = below(6);
+        if (fresh == 0) make(&k);
+        if (fresh == 1) random_record(&k);
+        if (below(12) == 0) {
+            struct nk_keeper whole = k;
+            if (!damage(&k, below(274))) k = whole;
+            struct nk_keeper hurt = k;
+            struct call c = at_damage[below(sizeof at_damage / sizeof *at_damage)];
+            struct nk_answer a = try(&k, c);
+            check(a.number == NK_OUT_OF_RANGE && same_fields(&k, &hurt), "random call %d on a damaged record", n);
+            damaged += a.number == NK_OUT_OF_RANGE;
+            k = whole;
+        }
+        struct call c = {.kind = (enum kind)below(KINDS),
+            .number = (uint32_t)chance(),
+            .stamp = chance(),
+            .address = chance(),
+            .len = random_length()};
+        c.device = below(20) == 0 ? 16 + below(3) : below(16);
+        c.value = below(3) ? below(4) : (uint32_t)chance();
+        switch (c.kind) {
+        case EVENT: c.now = below(2) ? k.clocks[c.device & 15] + below(6000) : random_now(k.clocks[c.device & 15], 2048); break;
+        case INTERRUPT: c.now = random_now(k.ledger.last_spill, 1000); break;
+        default: c.now = random_now(k.ledger.seeding_clock, 300000);
+        }
+        c.credit = below(4) ? (uint32_t)(c.len * 8) / (1 + below(30)) : (uint32_t)(c.len * 8) + below(2);
+        struct nk_answer a = try(&k, c);
+        if (a.number < 8) seen[a.number]++;
+        check(number_of(k, write_of(0)) == NK_DONE, "random call %d left the record out of range", n);
+    }
+    /* the calls must have come by every answer that they can have, or they test less than they seem to */
+    for (unsigned number = 0; number < 8; number++)
+        if (number != NK_START_NOT_48) check(seen[number] > 0, "no random call was answered %u", number);
+    check(damaged > 0, "no random call met a damaged record");
+    end();
+}
+
+int main(int argc, char **argv) {
+    if (argc > 1) seed = strtoull(argv[1], NULL, 0);
+    chance_at = seed;
+    lend_memory();
+    layout();
+    yardsticks();
+    making();
+    refusals();
+    out_of_range();
+    worked_cases();
+    lengths();
+    random_calls();
+    printf("%u passed, %u failed\n", groups_passed, groups_failed);
+    return groups_failed ? 1 : 0;
+}

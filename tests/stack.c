@@ -1,0 +1,150 @@
+/* How much stack each call of nk.h uses, measured: the call runs on a stack of its own that is filled with a pattern, and what is no
+ * longer the pattern was used. A call that does nothing goes the same way, and what it uses is subtracted. Each call is made in
+ * several situations, the one with the longest way among them, and the most counts. Bytes that a function sets aside and never writes
+ * are not seen.
+ *
+ * Fails where a call uses more than the limit on x86-64; on another processor the table is all there is. */
+#define _XOPEN_SOURCE 700
+#include <stdint.h>
+#include <stdio.h>
+#include <stdlib.h>
+#include <string.h>
+#include <ucontext.h>
+
+#include "../include/nk.h"
+
+enum { LIMIT = 1536, STACK = 65536 };
+
+static _Alignas(64) uint8_t stack[STACK];
+static ucontext_t outside, inside;
+static struct nk_keeper keeper;
+static struct nk_answer answer;
+static uint8_t bytes[4097];
+
+static struct nk_answer nothing(void) {
+    struct nk_answer a = {0, 0, 0, 0};
+    return a;
+}
+
+/* volatile, so that the compiler has to make the call */
+static struct nk_answer (*volatile do_nothing)(void) = nothing;
+
+/* The situations. Each begins with the keeper ready: seeded at clock 5,000, both pools with credit. */
+
+static void empty(void) { answer = do_nothing(); }
+static void make(void) { answer = nk_make(&keeper, bytes, 48); }
+static void make_refused(void) { answer = nk_make(&keeper, bytes, 47); }
+static void event(void) { answer = nk_event(&keeper, 3, 9000, 1, 2); }
+static void event_seeds(void) { keeper.ledger.seeded = 0; answer = nk_event(&keeper, 0, 9000, 1, 2); }
+static void event_refused(void) { answer = nk_event(&keeper, 16, 9000, 1, 2); }
+static void interrupt(void) { answer = nk_interrupt(&keeper, 100, 1, 2, 3); }
+static void interrupt_spills(void) { answer = nk_interrupt(&keeper, 9000, 1, 2, 3); }
+static void interrupt_seeds(void) { keeper.ledger.seeded = 0; answer = nk_interrupt(&keeper, 9000, 1, 2, 3); }
+static void write_some(void) { answer = nk_write(&keeper, bytes, 4096); }
+static void write_refused(void) { answer = nk_write(&keeper, bytes, 4097); }
+static void seed(void) { answer = nk_seed(&keeper, 9000, bytes, 4096, 32768); }
+static void seed_seeds(void) { keeper.ledger.seeded = 0; answer = nk_seed(&keeper, 9000, bytes, 4096, 32768); }
+static void read_short(void) { answer = nk_read(&keeper, 9000, bytes, 1); }
+static void read_long(void) { answer = nk_read(&keeper, 9000, bytes, 4096); }
+static void read_reseeds(void) { answer = nk_read(&keeper, 900000, bytes, 97); }
+static void read_refused(void) { keeper.ledger.seeded = 0; answer = nk_read(&keeper, 900000, bytes, 97); }
+static void blocking_short(void) { answer = nk_blocking_read(&keeper, bytes, 1); }
+static void blocking_transfers(void) { keeper.ledger.blocking_count = 0; answer = nk_blocking_read(&keeper, bytes, 128); }
+static void blocking_long(void) { answer = nk_blocking_read(&keeper, bytes, 4096); }
+static void blocking_refused(void) {
+    keeper.ledger.blocking_count = keeper.ledger.input_count = 0;
+    answer = nk_blocking_read(&keeper, bytes, 128);
+}
+static void damaged(void) { keeper.seconds[15] = INT64_MAX; answer = nk_blocking_read(&keeper, bytes, 128); }
+
+struct situation {
+    const char *name; /* null: one more situation of the call above */
+    void (*call)(void);
+    uint32_t number;
+    int hashes; /* the situation is one where a pool is extracted from */
+};
+
+static const struct situation situations[] = {
+    {"nk_make", make, NK_DONE, 0},
+    {NULL, make_refused, NK_START_NOT_48, 0},
+    {"nk_event", event, NK_DONE, 0},
+    {NULL, event_seeds, NK_DONE, 1},
+    {NULL, event_refused, NK_NO_SUCH_DEVICE, 0},
+    {"nk_interrupt", interrupt, NK_DONE, 0},
+    {NULL, interrupt_spills, NK_DONE, 0},
+    {NULL, interrupt_seeds, NK_DONE, 1},
+    {"nk_write", write_some, NK_DONE, 0},
+    {NULL, write_refused, NK_TOO_LONG, 0},
+    {"nk_seed", seed, NK_DONE, 0},
+    {NULL, seed_seeds, NK_DONE, 1},
+    {"nk_read", read_short, NK_DONE, 0},
+    {NULL, read_long, NK_DONE, 0},
+    {NULL, read_reseeds, NK_DONE, 1},
+    {NULL, read_refused, NK_UNSEEDED, 0},
+    {"nk_blocking_read", blocking_short, NK_DONE, 1},
+    {NULL, blocking_transfers, NK_DONE, 1},
+    {NULL, blocking_long, NK_DONE, 1},
+    {NULL, blocking_refused, NK_WOULD_BLOCK, 0},
+    {NULL, damaged, NK_OUT_OF_RANGE, 0},
+};
+
+static void ready(void) {
+    for (size_t i = 0; i < sizeof bytes; i++) bytes[i] = (uint8_t)(i * 37 + 11);
+    nk_make(&keeper, bytes, 48);
+    keeper.ledger.input_count = 30000;
+    keeper.ledger.blocking_count = 4000;
+    keeper.ledger.seeded = 1;
+    keeper.ledger.seeding_clock = 5000;
+}
+
+static size_t used_over(void (*call)(void), uint8_t pattern) {
+    memset(stack, pattern, sizeof stack);
+    if (getcontext(&inside) != 0) return STACK;
+    inside.uc_stack.ss_sp = stack;
+    inside.uc_stack.ss_size = sizeof stack;
+    inside.uc_link = &outside;
+    makecontext(&inside, call, 0);
+    if (swapcontext(&outside, &inside) != 0) return STACK;
+    size_t low = 0;
+    while (low < sizeof stack && stack[low] == pattern) low++;
+    return sizeof stack - low;
+}
+
+/* A byte that happens to equal one pattern does not equal the other. */
+static size_t used(void (*call)(void)) {
+    ready();
+    size_t one = used_over(call, 0xa5);
+    ready();
+    size_t other = used_over(call, 0x5a);
+    return one > other ? one : other;
+}
+
+int main(void) {
+#if defined __x86_64__
+    const int held = 1;
+#else
+    const int held = 0;
+#endif
+    size_t none = used(empty), count = sizeof situations / sizeof *situations;
+    unsigned passed = 0, failed = 0;
+    printf("%-20s %s\n", "call", "bytes of stack");
+    for (size_t i = 0; i < count;) {
+        const char *name = situations[i].name;
+        size_t most = 0;
+        int right = 1;
+        do {
+            size_t u = used(situations[i].call);
+            u = u > none ? u - none : 0;
+            if (u > most) most = u;
+            right &= answer.number == situations[i].number && (answer.compressions > 0) == situations[i].hashes;
+        } while (++i < count && !situations[i].name);
+        int good = right && (!held || most <= LIMIT);
+        if (good) passed++; else failed++;
+        printf("%-20s %14zu%s%s\n", name, most, right ? "" : "  FAILED: another answer than expected",
+            most > LIMIT && held ? "  FAILED: over the limit" : "");
+    }
+    if (held) printf("limit %d bytes; ", LIMIT); else printf("the limit of %d bytes is for x86-64; ", LIMIT);
+    printf("a call that does nothing used %zu, and that is subtracted\n", none);
+    printf("%u passed, %u failed\n", passed, failed);
+    return failed ? 1 : 0;
+}
