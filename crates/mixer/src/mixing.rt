@@ -4,7 +4,7 @@ ghost use mathlib.Core.List.{_∷_};
 ghost use Prim.Native.Nat.{_<_, _%_};
 ghost use lib.ListN.{length, getD};
 ghost use Rattle.ledger.specs.Places.{stepped};
-ghost use Rattle.pool.specs.Mixing.{twisted, tapped, mixByte, mix};
+ghost use Rattle.pool.specs.Mixing.{twistTable, twisted, tapped, mixByte, mix};
 ghost use Rattle.mixer.specs.Sizes.{shapeOf, Size, InPool, listed, TapsOf};
 use ledger::Spot;
 use words::rotate_left;
@@ -60,12 +60,13 @@ fn around(j: usize, n: usize) -> usize
     j & (n - 1)
 }
 
-// A word after the twist.
-fn twist(w: u32) -> u32
+// A word after the twist. The table is lent: as a constant here it would be laid out anew for every byte.
+fn twist(w: u32, table: &[u32]) -> u32
+    requires { ⌜ now table ≡ twistTable ⌝ }
     ensures { λ r. ⌜ r ≡ twisted w ⌝ }
 {
     let k = (w % 8) as usize;
-    (w >> 3) ^ TWISTS[k]
+    (w >> 3) ^ table[k]
 }
 
 // The place of the next byte, in a pool of n words.
@@ -114,7 +115,8 @@ fn blend(ws: &[u32], t: Taps, i: usize, x: u32) -> u32
 }
 
 // One byte mixed in, with the taps of the pool.
-fn put(ws: &mut [u32], t: Taps, s: Spot, b: u8) -> Spot
+fn put(ws: &mut [u32], t: Taps, table: &[u32], s: Spot, b: u8) -> Spot
+    requires { ⌜ now table ≡ twistTable ⌝ }
     requires { ⌜ InPool (length (now ws)) s ⌝ }
     requires { ⌜ TapsOf (length (now ws)) t ⌝ }
     ensures { λ r. ⌜ (record { words = now (ws .exit); spot = r }) ≡ mixByte (shapeOf (length (now (ws .entry)))) (record { words = now (ws .entry); spot = s }) b ⌝ }
@@ -123,7 +125,7 @@ fn put(ws: &mut [u32], t: Taps, s: Spot, b: u8) -> Spot
     let next = advance(s, ws.len());
     let at = next.at as usize;
     let w = blend(ws, t, at, rotate_left(b as u32, s.turn));
-    ws[at] = twist(w);
+    ws[at] = twist(w, table);
     next
 }
 
@@ -134,7 +136,8 @@ pub fn mix_byte(ws: &mut [u32], s: Spot, b: u8) -> Spot
     ensures { λ r. ⌜ InPool (length (now (ws .entry))) r ⌝ }
 {
     let t = taps_of(ws.len());
-    put(ws, t, s, b)
+    let table = TWISTS;
+    put(ws, t, &table, s, b)
 }
 
 // Bytes mixed into a pool of 128 or 32 words, the first first.
@@ -144,10 +147,11 @@ pub fn mix(ws: &mut [u32], s: Spot, bytes: &[u8]) -> Spot
     ensures { λ r. ⌜ InPool (length (now (ws .entry))) r ⌝ }
 {
     let t = taps_of(ws.len());
+    let table = TWISTS;
     let mut spot = s;
     let mut k = 0;
     while k < bytes.len() {
-        spot = put(ws, t, spot, bytes[k]);
+        spot = put(ws, t, &table, spot, bytes[k]);
         k += 1;
     }
     spot

@@ -1,4 +1,4 @@
--- `pool::mixing::mix` meets its contract: what is left to mix, mixed into the pool as it is, gives what the whole gives. Assumes
+-- `mix` meets its contract: what is left to mix, mixed into the pool as it is, gives what the whole gives. Assumes
 -- nothing.
 use mathlib.Core.Path.{_≡_, refl, _∙_}
 use Prim.Native.Nat.{_≤_, _-_}
@@ -12,14 +12,14 @@ use Rattle.mixer.proofs.mixing.mix.Statement.{statement}
 use Rattle.mixer.proofs.mixing.mix.Tie as tie
 
 abbrev Inv-loop : tie.InvT-loop
-Inv-loop ws₀ bytes t spot₀ k₀ ws spot k =
+Inv-loop ws₀ bytes t table spot₀ k₀ ws spot k =
     (k ≤ length bytes)
     × ((length ws ≡ length ws₀)
     × (InPool (length ws₀) spot
     × (mix (shapeOf (length ws₀)) (record { words = ws; spot = spot }) (drop k bytes) ≡ mix (shapeOf (length ws₀)) (record { words = ws₀; spot = spot₀ }) bytes)))
 
 abbrev μ-loop : tie.MeasureT-loop
-μ-loop ws₀ bytes t spot₀ k₀ ws spot k = length bytes - k
+μ-loop ws₀ bytes t table spot₀ k₀ ws spot k = length bytes - k
 
 taps-of-requires : tie.Need-taps-of-requires Inv-loop μ-loop
 taps-of-requires c κs = search needs
@@ -27,14 +27,17 @@ taps-of-requires c κs = search needs
 loop-holds : tie.Need-loop-holds Inv-loop μ-loop
 loop-holds c = (omega arith, (refl, (search needs, refl)))
 
+slice-aggregate-put : tie.Need-slice-aggregate-put Inv-loop μ-loop
+slice-aggregate-put c = search needs
+
 shared-slice-read-put : tie.Need-shared-slice-read-put Inv-loop μ-loop
 shared-slice-read-put c = search needs
 
 put-requires : tie.Need-put-requires Inv-loop μ-loop
 put-requires c κs =
-    let l = c .before .before .before in
+    let l = c .before .before .before .before in
     let i = l .loop .inv in
-    (rw (i .1 .0) (i .1 .1 .0), rw (i .1 .0) (l .before .taps-of .ensures))
+    (refl, (rw (i .1 .0) (i .1 .1 .0), rw (i .1 .0) (l .before .taps-of .ensures)))
 
 add-k : tie.Need-add-k Inv-loop μ-loop
 add-k c = search needs
@@ -45,7 +48,7 @@ loop-less c = omega arith
 loop-again : tie.Need-loop-again Inv-loop μ-loop
 loop-again c =
     let m = c .before .before .put in
-    let t = c .before .before .before .before .before in
+    let t = c .before .before .before .before .before .before in
     let i = t .before .loop .inv in
     (omega arith, (m .kept .0 ∙ i .1 .0, (rw (← i .1 .0) (m .ensures .1), more _ _ _ _ _ _ (t .loop-test .taken) (rw (← i .1 .0) (m .ensures .0)) (i .1 .1 .1))))
 
@@ -65,6 +68,7 @@ mix-spec =
     μ-loop
     taps-of-requires
     loop-holds
+    slice-aggregate-put
     shared-slice-read-put
     put-requires
     add-k

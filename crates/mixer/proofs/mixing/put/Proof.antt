@@ -30,8 +30,8 @@ same-length c = search needs
 returns : tie.Need-returns
 returns c =
     let a = c .before .before .before .before .before .advance .ensures in
-    let p = c .before .before .before .before .before .before .before .pre in
-    (put-byte _ _ _ _ _ _ _ _ _ (p .0 .turning) (p .1 .these) (a .0) (c .before .before .rotate-left .ensures) (c .before .blend .ensures) (c .twist .ensures), a .1)
+    let p = c .before .before .before .before .before .before .before .before .pre in
+    (put-byte _ _ _ _ _ _ _ _ _ (p .1 .0 .turning) (p .1 .1 .these) (a .0) (c .before .before .rotate-left .ensures) (c .before .blend .ensures) (c .twist .ensures), a .1)
 
 pub put-spec : {M : Type 1} → statement M
 put-spec =

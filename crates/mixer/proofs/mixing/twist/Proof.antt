@@ -1,5 +1,10 @@
-use mathlib.Core.Path.{refl}
-use Rattle.pool.specs.Mixing.{twisted}
+use mathlib.Core.Path.{refl, ap, _∙_}
+use native.Mathlib.Omega.{arith}
+use Prim.Native.Nat.{ℕ}
+use mathlib.Core.List.{List}
+use lib.ListN.{length, getD}
+use lib.Bits.{bitXor}
+use Rattle.pool.specs.Mixing.{twisted, twistTable}
 use borrow.Author.Needs.{needs}
 use Rattle.mixer.proofs.mixing.twist.Statement.{statement}
 use Rattle.mixer.proofs.mixing.twist.Tie as tie
@@ -10,12 +15,14 @@ cast-k c = search needs
 mul-result : tie.Need-mul-result
 mul-result c = search needs
 
-array-read-result : tie.Need-array-read-result
-array-read-result c = search needs
+shared-slice-read-result : tie.Need-shared-slice-read-result
+shared-slice-read-result c =
+    let l = ap length (c .before .pre) in
+    omega (arith, l)
 
 returns : tie.Need-returns
 unfolding twisted
-returns c = refl
+returns c = rw (c .before .pre) refl
 
 pub twist-spec : {M : Type 1} → statement M
-twist-spec = tie.close (tie.spec cast-k mul-result array-read-result returns)
+twist-spec = tie.close (tie.spec cast-k mul-result shared-slice-read-result returns)
