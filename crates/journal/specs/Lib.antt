@@ -1,0 +1,5 @@
+pub mod Fields
+pub mod Records
+pub mod Header
+pub mod Ending
+pub mod Beginnings

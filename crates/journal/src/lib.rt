@@ -1,0 +1,20 @@
+// The journal: what stands at a position of it, the bytes that a record carries, whether its header is good, and the number that it
+// ends with. `fields` reads numbers out of bytes, `records` the six kinds; `part` has what hands on a record's bytes, `heading` and
+// `ending` what judges the journal.
+//
+// Each exported function takes any bytes and any position, and its contract is one equation with a definition of specs/. Nothing is
+// made up: where a byte is missing there is no record, but a number that says so. A record's bytes are handed on as a part of the
+// journal itself. That a cut journal has the first of the whole's records, and nothing else, is proved in proofs/Laws.antt.
+pub mod ending;
+mod fields;
+pub mod heading;
+pub mod numbers;
+pub mod part;
+pub mod records;
+
+pub use ending::scan;
+pub use heading::header;
+pub use part::payload;
+pub use records::Found;
+pub use records::Record;
+pub use records::read;

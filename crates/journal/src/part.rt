@@ -1,0 +1,16 @@
+// The bytes that a record carries, as a part of the journal itself: nothing is copied.
+ghost use mathlib.Core.Path.{_≡_};
+ghost use lib.ListN.{take, drop};
+
+// The `len` bytes from `start` on, or as many of them as the journal has. Of a record that was read it has them all.
+pub fn payload(j: &[u8], start: usize, len: usize) -> &[u8]
+    ensures { λ r. ⌜ now r ≡ take len (drop start (now (j .entry))) ⌝ }
+{
+    if j.len() <= start {
+        return &j[..0];
+    }
+    if j.len() - start < len {
+        return &j[start..];
+    }
+    &j[start..start + len]
+}

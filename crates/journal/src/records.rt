@@ -1,0 +1,195 @@
+// The records: what stands at a position of a journal, one function for each kind. A record is read only where all its bytes are there.
+ghost use mathlib.Core.Path.{_≡_};
+ghost use Prim.Native.Nat.{_≤_, _<_};
+ghost use lib.ListN.{length};
+ghost use Rattle.journal.specs.Records.{readAt, eventAt, interruptAt, writeAt, seedAt, generatorReadAt, blockingReadAt, carried};
+use crate::fields::eight;
+use crate::fields::four;
+use crate::fields::two;
+use crate::numbers::CUT_SHORT;
+use crate::numbers::TOO_LONG;
+use crate::numbers::UNKNOWN_KIND;
+
+// A record. The bytes of a write or a seed are the `len` bytes of the journal from `start` on; `payload` hands them over.
+pub enum Record {
+    Event {
+        now: u32,
+        device: u8,
+        stamp: u64,
+        value: u32,
+    },
+    Interrupt {
+        now: u32,
+        number: u32,
+        stamp: u64,
+        address: u64,
+    },
+    Write {
+        now: u32,
+        start: usize,
+        len: usize,
+    },
+    Seed {
+        now: u32,
+        credit: u32,
+        start: usize,
+        len: usize,
+    },
+    Read {
+        now: u32,
+        len: u32,
+    },
+    BlockingRead {
+        now: u32,
+        len: u32,
+    },
+}
+
+// What stands at a position: a record and the position after it; the number that the journal ends with there; or no more bytes.
+pub enum Found {
+    One(Record, usize),
+    Stop(u32),
+    End,
+}
+
+// What stands at a position.
+pub fn read(j: &[u8], at: usize) -> Found
+    ensures { λ r. ⌜ r ≡ readAt (now (j .entry)) at ⌝ }
+{
+    if j.len() <= at {
+        return Found::End;
+    }
+    match j[at] {
+        1 => event(j, at),
+        2 => interrupt(j, at),
+        3 => write(j, at),
+        4 => seed(j, at),
+        5 => generator_read(j, at),
+        6 => blocking_read(j, at),
+        _ => Found::Stop(UNKNOWN_KIND),
+    }
+}
+
+// Kind 1.
+fn event(j: &[u8], at: usize) -> Found
+    requires { ⌜ at < length (now j) ⌝ }
+    ensures { λ r. ⌜ r ≡ eventAt (now (j .entry)) at ⌝ }
+{
+    if j.len() - at < 18 {
+        return Found::Stop(CUT_SHORT);
+    }
+    let now = four(j, at + 1);
+    let stamp = eight(j, at + 6);
+    let value = four(j, at + 14);
+    Found::One(
+        Record::Event {
+            now,
+            device: j[at + 5],
+            stamp,
+            value,
+        },
+        at + 18,
+    )
+}
+
+// Kind 2.
+fn interrupt(j: &[u8], at: usize) -> Found
+    requires { ⌜ at < length (now j) ⌝ }
+    ensures { λ r. ⌜ r ≡ interruptAt (now (j .entry)) at ⌝ }
+{
+    if j.len() - at < 25 {
+        return Found::Stop(CUT_SHORT);
+    }
+    let now = four(j, at + 1);
+    let number = four(j, at + 5);
+    let stamp = eight(j, at + 9);
+    let address = eight(j, at + 17);
+    Found::One(
+        Record::Interrupt {
+            now,
+            number,
+            stamp,
+            address,
+        },
+        at + 25,
+    )
+}
+
+// A record that carries the `len` bytes from `start` on: the length is judged before the bytes are.
+fn carry(j: &[u8], it: Record, start: usize, len: usize) -> Found
+    requires { ⌜ start ≤ length (now j) ⌝ }
+    ensures { λ r. ⌜ r ≡ carried (now (j .entry)) it start len ⌝ }
+{
+    if len > 4096 {
+        return Found::Stop(TOO_LONG);
+    }
+    if j.len() - start < len {
+        return Found::Stop(CUT_SHORT);
+    }
+    Found::One(it, start + len)
+}
+
+// Kind 3.
+fn write(j: &[u8], at: usize) -> Found
+    requires { ⌜ at < length (now j) ⌝ }
+    ensures { λ r. ⌜ r ≡ writeAt (now (j .entry)) at ⌝ }
+{
+    if j.len() - at < 7 {
+        return Found::Stop(CUT_SHORT);
+    }
+    let now = four(j, at + 1);
+    let len = two(j, at + 5) as usize;
+    let start = at + 7;
+    carry(j, Record::Write { now, start, len }, start, len)
+}
+
+// Kind 4. The credit stands between the length and the bytes.
+fn seed(j: &[u8], at: usize) -> Found
+    requires { ⌜ at < length (now j) ⌝ }
+    ensures { λ r. ⌜ r ≡ seedAt (now (j .entry)) at ⌝ }
+{
+    if j.len() - at < 11 {
+        return Found::Stop(CUT_SHORT);
+    }
+    let now = four(j, at + 1);
+    let len = two(j, at + 5) as usize;
+    let credit = four(j, at + 7);
+    let start = at + 11;
+    carry(
+        j,
+        Record::Seed {
+            now,
+            credit,
+            start,
+            len,
+        },
+        start,
+        len,
+    )
+}
+
+// Kind 5. Its length may be any: what is too long to read is an answer of the keeper, and ends nothing.
+fn generator_read(j: &[u8], at: usize) -> Found
+    requires { ⌜ at < length (now j) ⌝ }
+    ensures { λ r. ⌜ r ≡ generatorReadAt (now (j .entry)) at ⌝ }
+{
+    if j.len() - at < 7 {
+        return Found::Stop(CUT_SHORT);
+    }
+    let now = four(j, at + 1);
+    let len = two(j, at + 5);
+    Found::One(Record::Read { now, len }, at + 7)
+}
+
+// Kind 6, of any length too.
+fn blocking_read(j: &[u8], at: usize) -> Found
+    requires { ⌜ at < length (now j) ⌝ }
+    ensures { λ r. ⌜ r ≡ blockingReadAt (now (j .entry)) at ⌝ }
+{
+    if j.len() - at < 7 {
+        return Found::Stop(CUT_SHORT);
+    }
+    let now = four(j, at + 1);
+    let len = two(j, at + 5);
+    Found::One(Record::BlockingRead { now, len }, at + 7)
+}

@@ -1,0 +1,144 @@
+-- Bytes that a call hands out, in a room that is longer than the call knows. Assumes nothing.
+use mathlib.Core.Path.{_≡_, refl, sym, ap, _∙_}
+use mathlib.Core.Bool.{Bool, true, false, not}
+use mathlib.Core.List.{List, [], _∷_, _++_, append-assoc}
+use Prim.Native.Nat.{ℕ, zero, suc, _+_, _*_, _≤_, _<_, min, max}
+use native.Mathlib.Omega.{arith}
+use lib.Dec.{ltb, eqb}
+use lib.ListN.{length, take, drop, length-append, length-take, length-drop, take-append-drop}
+use lib.Seq.{length-take-le, drop-append-le, take-append-seam}
+use borrow.Author.Tests.{lt-ltb, ltb-true, ltb-false}
+use Rattle.ledger.specs.Choice.{pick}
+use Rattle.ledger.specs.Shapes.{blockingShape}
+use Rattle.ledger.specs.Credits.{taken}
+use Rattle.ledger.specs.Marks.{blockingCount, isSeeded, reseedDue, blocks}
+use Rattle.ledger.proofs.Picks.{pick-both, pick-by}
+use Rattle.ledger.proofs.Crediting.{taken-wanted}
+use Rattle.pool.proofs.Extracted.{extract-length}
+use Rattle.keeper.specs.Generator.{stream, generated}
+use Rattle.keeper.specs.Record.{Outcome, refused, roomAfter}
+use Rattle.keeper.specs.Calls.{Call, deviceEvent, interrupted, written, seededWith, generatorRead, blockingReadOf}
+use Rattle.keeper.specs.Narrative.{Run, finished, eventCall, interruptCall, writeCall, seedCall, generate, readCall, transfer, deliver, blockingCall, act, told}
+use Rattle.keeper.specs.declared.Keeper.{Keeper}
+use Rattle.keeper.specs.declared.Answer.{Answer}
+use Rattle.keeper.proofs.Refusals.{delivered}
+use Rattle.steps.specs.Promise.{Left, left, over, leaves}
+
+-- ---- no call hands out more than 4,096 bytes
+record Few (o : Outcome) : Type 0 where
+  few : length (o .bytes) ≤ 4096
+
+none : (o : Outcome) → o .bytes ≡ [] → Few o
+none o e = record { few = omega (arith, ap length e) }
+
+under : (n : ℕ) (l : List ℕ) → n ≤ 4096 → length (take n l) ≤ 4096
+under n l h = omega (arith, length-take n l)
+
+as-many : (m n : ℕ) → m ≡ n → n ≤ 4096 → m ≤ 4096
+as-many m n e h = omega (arith, e, h)
+
+made-few : (len : ℕ) (w : Run) → len ≤ 4096 → Few (generate len w)
+unfolding generate generated
+made-few len w h = record { few = under len _ h }
+
+delivered-few : (n : ℕ) (w : Run) → n ≤ 4096 → Few (deliver n w)
+unfolding deliver
+delivered-few n w h =
+    let t = taken-wanted n 0 (blockingCount (w .0 .ledger)) in
+    record { few = as-many _ _ (extract-length blockingShape (taken n 0 (blockingCount (w .0 .ledger))) _) (omega (arith, t, h)) }
+
+act-few : (k : Keeper) (c : Call) → Few (act k c)
+unfolding act eventCall interruptCall writeCall seedCall readCall blockingCall
+act-few k (deviceEvent device now stamp value) = pick-both Few _ (none _ refl) (pick-both Few _ (none _ refl) (none _ refl))
+act-few k (interrupted now number stamp address) = pick-both Few _ (none _ refl) (none _ refl)
+act-few k (written bs) = pick-both Few _ (none _ refl) (none _ refl)
+act-few k (seededWith now bs credit) = pick-both Few _ (none _ refl) (pick-both Few _ (none _ refl) (none _ refl))
+act-few k (generatorRead now len) =
+    pick-by Few (ltb 4096 len) (λ h. none _ refl) (λ h. pick-both Few _ (none _ refl) (pick-both Few _ (none _ refl) (made-few len _ (ltb-false 4096 len h))))
+act-few k (blockingReadOf n) =
+    pick-by Few (ltb 4096 n) (λ h. none _ refl) (λ h. pick-both Few _ (none _ refl) (pick-both Few _ (none _ refl) (delivered-few n _ (ltb-false 4096 n h))))
+
+pub few : (k : Keeper) (c : Call) → length ((told k c) .bytes) ≤ 4096
+unfolding told
+few k c = (pick-both Few _ (act-few k c) (none _ refl)) .few
+
+-- ---- over 4,096 bytes the length of a read does not matter
+pub long-read : (k : Keeper) (now m n : ℕ) → 4096 < m → 4096 < n → told k (generatorRead now m) ≡ told k (generatorRead now n)
+unfolding told act readCall pick
+long-read k now m n hm hn = rw (lt-ltb 4096 m hm, lt-ltb 4096 n hn)
+
+pub long-blocking : (k : Keeper) (m n : ℕ) → 4096 < m → 4096 < n → told k (blockingReadOf m) ≡ told k (blockingReadOf n)
+unfolding told act blockingCall pick
+long-blocking k m n hm hn = rw (lt-ltb 4096 m hm, lt-ltb 4096 n hn)
+
+-- ---- a call that leaves an empty room empty hands out nothing, and leaves any room as it is
+nothing : (bs : List ℕ) → [] ≡ bs ++ drop (length bs) [] → bs ≡ []
+nothing [] e = refl
+nothing (b ∷ bs) e = absurd (let z : 0 ≡ suc (length (bs ++ drop (length (b ∷ bs)) [])) = ap length e in omega (arith, z))
+
+pub quiet : (k k′ : Keeper) (c : Call) (a : Answer) (room : List ℕ) → left k′ a [] ≡ leaves k c [] → left k′ a room ≡ leaves k c room
+unfolding leaves
+quiet k k′ c a room e =
+    let b : (told k c) .bytes ≡ [] = nothing ((told k c) .bytes) (ap (λ (x : Left). x .room) e) in
+    λ i. record {
+      keeper = (e i) .keeper;
+      answer = (e i) .answer;
+      room = sym (ap (λ (bs : List ℕ). roomAfter room bs) b) i;
+    }
+
+-- ---- a part of a room
+-- what stands past the part stays
+beyond : (b n : ℕ) (l : List ℕ) → b ≤ n → drop b (take n l) ++ drop n l ≡ drop b l
+beyond zero n l h = take-append-drop n l
+beyond (suc b) zero l h = absurd (omega arith)
+beyond (suc b) (suc n) [] h = refl
+beyond (suc b) (suc n) (x ∷ l) h = beyond b n l (omega arith)
+
+-- bytes at the front of a part stand at the front of the room
+pub part-of : (n : ℕ) (room bs xs : List ℕ) → n ≤ length room → length xs ≡ n → xs ≡ roomAfter (take n room) bs → xs ++ drop n room ≡ roomAfter room bs
+part-of n room bs xs h l e =
+    let t = length-take-le n room h in
+    let b : length bs ≤ n = omega (arith, ap length e, length-append bs (drop (length bs) (take n room)), l) in
+    ap (λ (ys : List ℕ). ys ++ drop n room) e ∙ append-assoc bs _ _ ∙ ap (λ (ys : List ℕ). bs ++ ys) (beyond (length bs) n room b)
+
+pub longer : (k k′ : Keeper) (c d : Call) (a : Answer) (n : ℕ) (room xs : List ℕ) → n ≤ length room → length xs ≡ n → told k c ≡ told k d
+    → left k′ a xs ≡ leaves k c (take n room) → left k′ a (xs ++ drop n room) ≡ leaves k d room
+unfolding leaves
+longer k k′ c d a n room xs h l s e =
+    let p = part-of n room ((told k c) .bytes) xs h l (ap (λ (x : Left). x .room) e) in
+    (λ i. record { keeper = (e i) .keeper; answer = (e i) .answer; room = p i }) ∙ ap (over room) s
+
+-- ---- what was handed out stands in front, and its length is what the answer says
+pub record Front (k : Keeper) (c : Call) (a : Answer) (room : List ℕ) : Type 0 where
+  pub fits : a .delivered ≤ length room
+  pub bytes : take (a .delivered) room ≡ (told k c) .bytes
+
+pub front : (k k′ : Keeper) (c : Call) (a : Answer) (room room′ : List ℕ) → left k′ a room′ ≡ leaves k c room → Front k c a room′
+unfolding leaves
+front k k′ c a room room′ e =
+    let bs = (told k c) .bytes in
+    let r : room′ ≡ bs ++ drop (length bs) room = ap (λ (x : Left). x .room) e in
+    let n : a .delivered ≡ length bs = ap (λ (x : Left). x .answer .delivered) e ∙ delivered k c in
+    record {
+      fits = omega (arith, n, ap length r, length-append bs (drop (length bs) room));
+      bytes = ap (λ (m : ℕ). take m room′) n ∙ ap (λ (x : List ℕ). take (length bs) x) r ∙ take-append-seam bs _;
+    }
+
+-- ---- a read into a room for at most 4,097 bytes
+pub same-generatorRead : (k : Keeper) (now len n : ℕ) → n ≡ min len 4097 → told k (generatorRead now n) ≡ told k (generatorRead now len)
+same-generatorRead k now len n e = by (ltb 4096 len) refl
+  where
+    by : (b : Bool) → ltb 4096 len ≡ b → told k (generatorRead now n) ≡ told k (generatorRead now len)
+    by true h = long-read k now n len (omega (arith, e, ltb-true 4096 len h)) (ltb-true 4096 len h)
+    by false h = let m : n ≡ len = omega (arith, e, ltb-false 4096 len h) in ap (λ (x : ℕ). told k (generatorRead now x)) m
+
+pub same-blockingReadOf : (k : Keeper) (len n : ℕ) → n ≡ min len 4097 → told k (blockingReadOf n) ≡ told k (blockingReadOf len)
+same-blockingReadOf k len n e = by (ltb 4096 len) refl
+  where
+    by : (b : Bool) → ltb 4096 len ≡ b → told k (blockingReadOf n) ≡ told k (blockingReadOf len)
+    by true h = long-blocking k n len (omega (arith, e, ltb-true 4096 len h)) (ltb-true 4096 len h)
+    by false h = let m : n ≡ len = omega (arith, e, ltb-false 4096 len h) in ap (λ (x : ℕ). told k (blockingReadOf x)) m
+
+-- ---- what is promised of a call is promised of another name for it
+pub called : (k k′ : Keeper) (c d : Call) (a : Answer) (room room′ : List ℕ) → c ≡ d → left k′ a room′ ≡ leaves k d room → left k′ a room′ ≡ leaves k c room
+called k k′ c d a room room′ e h = h ∙ ap (λ (x : Call). leaves k x room) (sym e)

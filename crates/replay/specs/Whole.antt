@@ -1,0 +1,55 @@
+-- The whole replay of a journal: its transcript, the keeper that it leaves, and what turns write one after another.
+use mathlib.Core.Bool.{Bool, true, false}
+use mathlib.Core.List.{List, [], _∷_, _++_, map}
+use Prim.Native.Nat.{ℕ, zero, suc}
+use lib.Dec.{eqb}
+use Rattle.ledger.specs.Choice.{pick}
+use Rattle.journal.specs.Header.{headerOf, startOf}
+use Rattle.journal.specs.Ending.{endingOf, recordsOf}
+use Rattle.transcript.specs.Lines.{lineOf, endOf}
+use Rattle.ledger.specs.Marks.{inputCount, blockingCount}
+use Rattle.keeper.specs.Record.{Outcome, fresh}
+use Rattle.keeper.specs.Calls.{Call}
+use Rattle.keeper.specs.Demands.{outcomes, keeperAfter}
+use Rattle.keeper.specs.declared.Keeper.{Keeper}
+use Rattle.replay.specs.Running.{callOf, lineFor}
+use Rattle.replay.specs.Turns.{After, turnOf}
+
+-- the calls of a journal: one for each whole record, up to what ends the replay
+abbrev pub callsOf : List ℕ → List Call
+callsOf j = map (callOf j) (recordsOf j)
+
+-- what comes of them, on a fresh keeper of the journal's start bytes
+abbrev pub outcomesOf : List ℕ → List Outcome
+outcomesOf j = outcomes (fresh (startOf j)) (callsOf j)
+
+-- a line for each
+unfoldable pub linesOf : List Outcome → List ℕ
+linesOf [] = []
+linesOf (o ∷ os) = lineFor o ++ linesOf os
+
+-- the transcript: the lines, and the end
+unfoldable pub transcriptOf : List ℕ → List ℕ
+transcriptOf j = linesOf (outcomesOf j) ++ endOf (endingOf j)
+
+-- the keeper that a replay leaves in a record; where the header is not good, the record stays as it was
+unfoldable pub replayed : List ℕ → Keeper → Keeper
+replayed j k = pick (eqb (headerOf j) 0) (keeperAfter (fresh (startOf j)) (callsOf j)) k
+
+-- what n turns write, stopping where a turn says that there is no more
+abbrev pub ifMore : Bool → List ℕ → List ℕ
+ifMore true l = l
+ifMore false l = []
+
+unfoldable pub turnsWrite : ℕ → List ℕ → ℕ → Keeper → List ℕ
+turnsWrite zero j at k = []
+turnsWrite (suc n) j at k =
+    let a = turnOf j at k in a .line ++ ifMore (a .more) (turnsWrite n j (a .at) (a .keeper))
+
+-- ---- the transcript without the hex: each line as if nothing had been handed out, which leaves its six numbers as they are
+unfoldable pub linesUnhexed : List Outcome → List ℕ
+linesUnhexed [] = []
+linesUnhexed (o ∷ os) = lineOf (o .answer) (inputCount (o .keeper .ledger)) (blockingCount (o .keeper .ledger)) [] ++ linesUnhexed os
+
+unfoldable pub unhexed : List ℕ → List ℕ
+unhexed j = linesUnhexed (outcomesOf j) ++ endOf (endingOf j)

@@ -1,0 +1,151 @@
+// One record run on a keeper.
+ghost use mathlib.Core.Path.{_≡_};
+ghost use mathlib.Core.List.{List};
+ghost use Prim.Native.Nat.{ℕ, min};
+ghost use lib.ListN.{length};
+ghost use Rattle.keeper.specs.Calls.{generatorRead, blockingReadOf};
+ghost use Rattle.steps.specs.Promise.{keeperOf, left, leaves};
+ghost use Rattle.replay.specs.Running.{callOf};
+use journal::Record;
+use journal::payload;
+use ledger::Ledger;
+use steps::Done;
+use steps::blocking_read_on;
+use steps::event_on;
+use steps::interrupt_on;
+use steps::read_on;
+use steps::seed_on;
+use steps::write_on;
+
+// A room for a read of any length: over 4,096 bytes a read is refused, whatever its length, so one byte more than that is enough.
+fn room_for(len: u32) -> usize
+    ensures { λ r. ⌜ r ≡ min len 4097 ⌝ }
+{
+    if len < 4097 { len as usize } else { 4097 }
+}
+
+// A generator read of len bytes.
+fn read_into(
+    l: Ledger,
+    firsts: &[i64; 16],
+    seconds: &[i64; 16],
+    input: &mut [u32; 128],
+    generator: &mut [u32; 16],
+    at: u32,
+    out: &mut [u8],
+    len: u32,
+) -> Done
+    requires { ⌜ length (now out) ≡ 4097 ⌝ }
+    ensures { λ r. ⌜ ((clocks blocking fast : List ℕ) → left (keeperOf (r .ledger) clocks (now (firsts .entry)) (now (seconds .entry)) (now (input .exit)) blocking fast (now (generator .exit))) (r .answer) (now (out .exit)) ≡ leaves (keeperOf l clocks (now (firsts .entry)) (now (seconds .entry)) (now (input .entry)) blocking fast (now (generator .entry))) (generatorRead at len) (now (out .entry))) ⌝ }
+{
+    let n = room_for(len);
+    read_on(l, firsts, seconds, input, generator, at, &mut out[..n])
+}
+
+// A blocking read of len bytes.
+fn blocking_read_into(
+    l: Ledger,
+    firsts: &[i64; 16],
+    seconds: &[i64; 16],
+    input: &mut [u32; 128],
+    blocking: &mut [u32; 32],
+    generator: &[u32; 16],
+    out: &mut [u8],
+    len: u32,
+) -> Done
+    requires { ⌜ length (now out) ≡ 4097 ⌝ }
+    ensures { λ r. ⌜ ((clocks fast : List ℕ) → left (keeperOf (r .ledger) clocks (now (firsts .entry)) (now (seconds .entry)) (now (input .exit)) (now (blocking .exit)) fast (now (generator .entry))) (r .answer) (now (out .exit)) ≡ leaves (keeperOf l clocks (now (firsts .entry)) (now (seconds .entry)) (now (input .entry)) (now (blocking .entry)) fast (now (generator .entry))) (blockingReadOf len) (now (out .entry))) ⌝ }
+{
+    let n = room_for(len);
+    blocking_read_on(
+        l,
+        firsts,
+        seconds,
+        input,
+        blocking,
+        generator,
+        &mut out[..n],
+    )
+}
+
+// The call that a record stands for. What it hands out is laid into the front of `out`.
+pub fn run(
+    j: &[u8],
+    it: Record,
+    l: Ledger,
+    clocks: &mut [u32; 16],
+    firsts: &mut [i64; 16],
+    seconds: &mut [i64; 16],
+    input: &mut [u32; 128],
+    blocking: &mut [u32; 32],
+    fast: &mut [u32; 4],
+    generator: &mut [u32; 16],
+    out: &mut [u8],
+) -> Done
+    requires { ⌜ length (now out) ≡ 4097 ⌝ }
+    ensures { λ r. ⌜ left (keeperOf (r .ledger) (now (clocks .exit)) (now (firsts .exit)) (now (seconds .exit)) (now (input .exit)) (now (blocking .exit)) (now (fast .exit)) (now (generator .exit))) (r .answer) (now (out .exit)) ≡ leaves (keeperOf l (now (clocks .entry)) (now (firsts .entry)) (now (seconds .entry)) (now (input .entry)) (now (blocking .entry)) (now (fast .entry)) (now (generator .entry))) (callOf (now (j .entry)) it) (now (out .entry)) ⌝ }
+{
+    match it {
+        Record::Event {
+            now,
+            device,
+            stamp,
+            value,
+        } => event_on(
+            l,
+            clocks,
+            firsts,
+            seconds,
+            input,
+            generator,
+            device as u32,
+            now,
+            stamp,
+            value,
+        ),
+        Record::Interrupt {
+            now,
+            number,
+            stamp,
+            address,
+        } => interrupt_on(
+            l,
+            firsts,
+            seconds,
+            input,
+            fast,
+            generator,
+            now,
+            number,
+            stamp,
+            address,
+        ),
+        Record::Write { now: _, start, len } => write_on(
+            l,
+            firsts,
+            seconds,
+            input,
+            generator,
+            payload(j, start, len),
+        ),
+        Record::Seed {
+            now,
+            credit,
+            start,
+            len,
+        } => seed_on(
+            l,
+            firsts,
+            seconds,
+            input,
+            generator,
+            now,
+            payload(j, start, len),
+            credit,
+        ),
+        Record::Read { now, len } => read_into(l, firsts, seconds, input, generator, now, out, len),
+        Record::BlockingRead { now: _, len } => {
+            blocking_read_into(l, firsts, seconds, input, blocking, generator, out, len)
+        }
+    }
+}

@@ -1,0 +1,49 @@
+// The lines of the transcript, each at the start of a room.
+ghost use mathlib.Core.Path.{_≡_};
+ghost use Rattle.transcript.specs.Lines.{lineIn, endIn};
+use crate::text::number;
+use crate::text::tail;
+use crate::text::word;
+use keeper::Answer;
+
+// The longest line of 4,096 bytes: 67, and two for each byte.
+pub const LONGEST_LINE: usize = 67 + 2 * 4096;
+
+// Writes a line at the start of a room, and answers how many bytes it has: 0, and nothing is written, where the room is
+// not long enough for the longest line with so many bytes, 67 and two for each.
+pub fn line(answer: Answer, input: u32, blocking: u32, bytes: &[u8], room: &mut [u8]) -> usize
+    ensures { λ r. ⌜ (record { count = r; room = now (room .exit) }) ≡ lineIn (now (room .entry)) answer input blocking (now (bytes .entry)) ⌝ }
+{
+    if room.len() < 67 {
+        return 0;
+    }
+    if (room.len() - 67) / 2 < bytes.len() {
+        return 0;
+    }
+    let a = word(answer.number, room, 0);
+    let b = word(answer.delivered, room, a);
+    let c = word(input, room, b);
+    let d = word(blocking, room, c);
+    let e = word(answer.blocks, room, d);
+    let f = number(answer.compressions, room, e);
+    let g = tail(bytes, room, f);
+    room[g] = b'\n';
+    g + 1
+}
+
+// Writes the last line, `end` and a number, at the start of a room, and answers how many bytes it has: 0, and nothing is
+// written, where the room has fewer than 15.
+pub fn ending(n: u32, room: &mut [u8]) -> usize
+    ensures { λ r. ⌜ (record { count = r; room = now (room .exit) }) ≡ endIn (now (room .entry)) n ⌝ }
+{
+    if room.len() < 15 {
+        return 0;
+    }
+    room[0] = b'e';
+    room[1] = b'n';
+    room[2] = b'd';
+    room[3] = b' ';
+    let last = number(n, room, 4);
+    room[last] = b'\n';
+    last + 1
+}
