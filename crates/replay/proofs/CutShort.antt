@@ -2,7 +2,7 @@
 -- nothing.
 use mathlib.Core.Path.{_≡_, refl, sym, ap, ap₂, _∙_}
 use mathlib.Core.Bool.{Bool, true, false}
-use mathlib.Core.List.{List, [], _∷_, _++_, map, append-assoc}
+use mathlib.Core.List.{List, [], _∷_, _++_, map, map-append, append-assoc}
 use Prim.Native.Nat.{ℕ, zero, suc}
 use native.Mathlib.Omega.{arith}
 use borrow.Author.Tests.{eqb-true, eqb-false, eq-eqb, ne-eqb}
@@ -49,10 +49,6 @@ same-calls (suc f) n j at = by (readAt (take n j) at) refl (λ next. same-calls 
     by End e on = rw e refl
 
 -- ---- more calls come after
-map-append : (g : Record → Call) (xs ys : List Record) → map g (xs ++ ys) ≡ map g xs ++ map g ys
-map-append g [] ys = refl
-map-append g (x ∷ xs) ys = ap (λ (cs : List Call). g x ∷ cs) (map-append g xs ys)
-
 later : (k : Keeper) (xs ys : List Call) → outcomes k (xs ++ ys) ≡ outcomes k xs ++ outcomes (keeperAfter k xs) ys
 unfolding outcomes keeperAfter
 later k [] ys = refl

@@ -1,7 +1,7 @@
 -- A plan that is carried out, shape by shape: what the record, the answer and the room are when it is over. Assumes nothing.
 use mathlib.Core.Path.{_≡_, refl, sym, ap, ap₂, _∙_}
 use mathlib.Core.Bool.{Bool, true, false}
-use mathlib.Core.List.{List, [], _∷_, _++_}
+use mathlib.Core.List.{List, [], _++_, append-nil}
 use Prim.Native.Nat.{ℕ, _+_}
 use lib.ListN.{length, drop, length-append}
 use Rattle.words.specs.Bytes.{bytesWords}
@@ -135,11 +135,6 @@ key-rests : (t : ℕ) (q : Pool) (g : List ℕ) → t ≡ 0 → ontoKey ((extrac
 unfolding xorAt bytesWords
 key-rests t q g e = ap (λ (x : Extract). ontoKey (x .bytes) g) (none-taken inputShape t q e)
 
--- bytes with none after them
-all : (bs : List ℕ) → bs ++ [] ≡ bs
-all [] = refl
-all (b ∷ bs) = ap (λ (t : List ℕ). b ∷ t) (all bs)
-
 -- so many of them in the room
 pub in-front : (room bs : List ℕ) (n : ℕ) → length bs ≡ n → roomAfter room bs ≡ bs ++ drop n room
 in-front room bs n e = rw e refl
@@ -165,7 +160,7 @@ delivered c p k room er es =
     let x = ontoKey ((forReseed c p k) .bytes) (k .generator) in
     let g = none-made (p .stream) x es in
     let still : (generated (p .stream) x) .generator ≡ k .generator = ap (λ (s : Stream). s .generator) g ∙ key-rests (p .reseed) _ (k .generator) er in
-    let bytes : b .bytes ++ (generated (p .stream) x) .bytes ≡ b .bytes = ap (λ (s : Stream). b .bytes ++ s .bytes) g ∙ all (b .bytes) in
+    let bytes : b .bytes ++ (generated (p .stream) x) .bytes ≡ b .bytes = ap (λ (s : Stream). b .bytes ++ s .bytes) g ∙ append-nil (b .bytes) in
     let a = answer-is c p k (ap (λ (s : Stream). length (s .bytes)) g ∙ sym es) in
     λ j. record {
       keeper =

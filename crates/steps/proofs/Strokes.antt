@@ -2,7 +2,7 @@
 -- promise and gives the call's contract. Assumes nothing.
 use mathlib.Core.Path.{_≡_, refl, sym, ap, ap₂, _∙_}
 use mathlib.Core.Bool.{Bool, true, false}
-use mathlib.Core.List.{List, [], _∷_, _++_}
+use mathlib.Core.List.{List, [], _++_, append-nil}
 use Prim.Native.Nat.{ℕ, _≤_}
 use native.Mathlib.Omega.{arith}
 use lib.IntN.{ℤ}
@@ -263,11 +263,7 @@ read-takes p k now len e = rw e refl
 
 -- a room that is filled holds the bytes and nothing else
 filled : (room bs : List ℕ) → length bs ≡ length room → roomAfter room bs ≡ bs
-filled room bs e = ap (λ (t : List ℕ). bs ++ t) (drop-of-length-le room {i = length bs} (omega (arith, e))) ∙ ends bs
-  where
-    ends : (xs : List ℕ) → xs ++ [] ≡ xs
-    ends [] = refl
-    ends (x ∷ xs) = ap (λ (t : List ℕ). x ∷ t) (ends xs)
+filled room bs e = ap (λ (t : List ℕ). bs ++ t) (drop-of-length-le room {i = length bs} (omega (arith, e))) ∙ append-nil bs
 
 pub read-done : (k : Keeper) (now : ℕ) (room : List ℕ) (p : Plan) (xs : List ℕ) (u : Spot) (g h out : List ℕ)
     → let e = extract (shapeOf (length (k .input))) (p .reseed) (inputPool k) in
