@@ -4,6 +4,7 @@
 #define _POSIX_C_SOURCE 200809L
 #include <stdint.h>
 #include <stdio.h>
+#include <stdlib.h>
 #include <string.h>
 #include <time.h>
 
@@ -31,6 +32,8 @@ struct side {
 
 static struct side sides[2];
 static uint8_t noise[LENGTH];
+static size_t length = LENGTH;          /* of each write and read */
+static unsigned devices = NK_DEVICES;   /* that have events in turn */
 
 static double now(void) {
     struct timespec t;
@@ -43,7 +46,7 @@ static double now(void) {
 static void events(struct side *s, const struct keeper_calls *c, unsigned n) {
     for (unsigned i = 0; i < n; i++) {
         s->clock += 3 + i * i % 61;
-        s->answers[i] = c->event(&s->keeper, i % NK_DEVICES, s->clock, 0x9e3779b97f4a7c15u * (i + 1), i + 1);
+        s->answers[i] = c->event(&s->keeper, i % devices, s->clock, 0x9e3779b97f4a7c15u * (i + 1), i + 1);
     }
 }
 
@@ -63,11 +66,11 @@ static void spills(struct side *s, const struct keeper_calls *c, unsigned n) {
 }
 
 static void writes(struct side *s, const struct keeper_calls *c, unsigned n) {
-    for (unsigned i = 0; i < n; i++) s->answers[i] = c->write(&s->keeper, noise, LENGTH);
+    for (unsigned i = 0; i < n; i++) s->answers[i] = c->write(&s->keeper, noise, length);
 }
 
 static void reads(struct side *s, const struct keeper_calls *c, unsigned n) {
-    for (unsigned i = 0; i < n; i++) s->answers[i] = c->read(&s->keeper, s->keeper.ledger.seeding_clock + i, s->room, LENGTH);
+    for (unsigned i = 0; i < n; i++) s->answers[i] = c->read(&s->keeper, s->keeper.ledger.seeding_clock + i, s->room, length);
 }
 
 /* the counts are put back, so that each read brings 128 bytes over and hands out what they are credited for */
@@ -97,38 +100,61 @@ static void make_ready(struct nk_keeper *k) {
     for (int i = 0; i < 4; i++) plain_seed(k, 1000, noise, LENGTH, 8 * LENGTH);
 }
 
+static const struct keeper_calls calls[2] = {{nk_event, nk_interrupt, nk_write, nk_read, nk_blocking_read},
+                                             {plain_event, plain_interrupt, plain_write, plain_read, plain_blocking_read}};
+
+/* Runs a workload on both sides; what each call took at the least is then in sides[].least. `each` may be left out. */
+static void measure(const struct workload *load, const struct nk_answer *each) {
+    for (int k = 0; k < 2; k++) {
+        memset(&sides[k], 0, sizeof sides[k]);
+        make_ready(&sides[k].keeper);
+        sides[k].least = 1e18;
+    }
+    for (int round = 0; round < ROUNDS; round++) {
+        for (int turn = 0; turn < 2; turn++) {
+            int k = (round + turn) % 2;
+            double from = now();
+            load->run(&sides[k], &calls[k], load->calls);
+            double took = (now() - from) / load->calls;
+            if (took < sides[k].least) sides[k].least = took;
+        }
+        if (memcmp(&sides[0].keeper, &sides[1].keeper, sizeof sides[0].keeper) || memcmp(sides[0].room, sides[1].room, LENGTH) ||
+            memcmp(sides[0].answers, sides[1].answers, sizeof sides[0].answers)) {
+            printf("FAILED: %s, round %d: the proved and the plain keeper differ\n", load->name, round);
+            exit(1);
+        }
+        for (unsigned i = 0; each && i < load->calls; i++)
+            if (memcmp(&sides[0].answers[i], each, sizeof *each)) {
+                printf("FAILED: %s, round %d, call %u: another answer than this measurement is about\n", load->name, round, i);
+                exit(1);
+            }
+    }
+}
+
 int main(void) {
-    static const struct keeper_calls calls[2] = {{nk_event, nk_interrupt, nk_write, nk_read, nk_blocking_read},
-                                                 {plain_event, plain_interrupt, plain_write, plain_read, plain_blocking_read}};
+    static const size_t lengths[] = {64, 256, 1024, 4096};
+    static const unsigned sets[] = {1, 4, 16};
     for (size_t i = 0; i < sizeof noise; i++) noise[i] = (uint8_t)(i * 167 + (i >> 3));
     printf("%-26s %12s %12s %7s\n", "what", "proved ns", "plain ns", "ratio");
     for (size_t w = 0; w < sizeof workloads / sizeof *workloads; w++) {
-        const struct workload *load = &workloads[w];
-        for (int k = 0; k < 2; k++) {
-            memset(&sides[k], 0, sizeof sides[k]);
-            make_ready(&sides[k].keeper);
-            sides[k].least = 1e18;
-        }
-        for (int round = 0; round < ROUNDS; round++) {
-            for (int turn = 0; turn < 2; turn++) {
-                int k = (round + turn) % 2;
-                double from = now();
-                load->run(&sides[k], &calls[k], load->calls);
-                double each = (now() - from) / load->calls;
-                if (each < sides[k].least) sides[k].least = each;
-            }
-            if (memcmp(&sides[0].keeper, &sides[1].keeper, sizeof sides[0].keeper) || memcmp(sides[0].room, sides[1].room, LENGTH) ||
-                memcmp(sides[0].answers, sides[1].answers, sizeof sides[0].answers)) {
-                printf("FAILED: %s, round %d: the proved and the plain keeper differ\n", load->name, round);
-                return 1;
-            }
-            for (unsigned i = 0; i < load->calls; i++)
-                if (memcmp(&sides[0].answers[i], &load->each, sizeof load->each)) {
-                    printf("FAILED: %s, round %d, call %u: another answer than this measurement is about\n", load->name, round, i);
-                    return 1;
-                }
-        }
-        printf("%-26s %12.1f %12.1f %7.2f\n", load->name, sides[0].least, sides[1].least, sides[0].least / sides[1].least);
+        measure(&workloads[w], &workloads[w].each);
+        printf("%-26s %12.1f %12.1f %7.2f\n", workloads[w].name, sides[0].least, sides[1].least, sides[0].least / sides[1].least);
+    }
+    printf("\nhow the proved calls' cost grows\n%-26s %12s %12s\n", "what", "ns a call", "ns a byte");
+    for (size_t i = 0; i < sizeof lengths / sizeof *lengths; i++) {
+        length = lengths[i];
+        measure(&workloads[3], NULL);
+        printf("write of %4zu bytes %20.1f %12.2f\n", length, sides[0].least, sides[0].least / (double)length);
+    }
+    for (size_t i = 0; i < sizeof lengths / sizeof *lengths; i++) {
+        length = lengths[i];
+        measure(&workloads[4], NULL);
+        printf("generator read of %4zu %17.1f %12.2f\n", length, sides[0].least, sides[0].least / (double)length);
+    }
+    for (size_t i = 0; i < sizeof sets / sizeof *sets; i++) {
+        devices = sets[i];
+        measure(&workloads[0], NULL);
+        printf("event, %2u devices in turn %13.1f\n", devices, sides[0].least);
     }
     return 0;
 }
