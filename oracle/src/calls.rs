@@ -1,0 +1,489 @@
+//! A trace of calls on one keeper record, for another program to follow.
+//!
+//! The line format stands in `FORMAT`, which also opens each trace.
+
+use std::io::{self, Write};
+
+use crate::journal::{hex, Record};
+use crate::keeper::{Answer, Keeper, BAD_START, DEVICES, LONGEST, START};
+use crate::maker::{any_record, first_clock, start, Pace};
+use crate::pools::{BLOCKING, INPUT};
+use crate::random::Random;
+use crate::transcript::perform_into;
+
+pub const FORMAT: &str = "\
+# A trace of calls on one keeper record, with what each call must leave behind.
+# Lines of words with single spaces between. Lines with # stand at the top only.
+# Numbers are decimal, some with a minus sign. WORD is a 32-bit number as 8 hex
+# digits, most significant first. BYTES are hex, two digits a byte in order, or
+# the one sign - for no bytes.
+#
+# sequence N                          a new sequence; it begins with no keeper
+#
+# A call is one of these lines:
+# make BYTES                          the start bytes
+# device NOW DEVICE STAMP VALUE
+# interrupt NOW NUMBER STAMP ADDRESS
+# write NOW BYTES
+# seed NOW CREDIT BYTES
+# generator NOW BYTES                 the room before the read; its length is the read's
+# blocking NOW BYTES                  the same
+#
+# After each call come three lines:
+# answer NUMBER DELIVERED BLOCKS COMPRESSIONS
+# room BYTES                          the room after the call; - where there is none
+# keeper FIELDS                       the whole record, or the word none before it is made
+#
+# FIELDS, in this order, 11 + 48 + 180 words:
+#   input count, blocking count, input position, blocking position,
+#   input rotation, blocking rotation, device 0's last value, tally,
+#   last spill, seeded (0 or 1), seeding clock,
+#   16 clocks, 16 d1, 16 d2 (devices 0 to 15),
+#   128 WORDs of the input pool, 32 of the blocking pool, 4 of the fast pool,
+#   16 of the generator
+#
+# Between calls the record may be changed from outside; nothing is answered:
+# put FIELD INDEX VALUE               VALUE decimal for all fields
+# FIELD is one of input-count blocking-count input-position blocking-position
+# input-rotation blocking-rotation last-value tally last-spill seeded
+# seeding-clock clock d1 d2 input-word blocking-word fast-word generator-word.
+# INDEX is the device or word, and 0 where there is only one.
+";
+
+/// The hex of bytes, never an empty word.
+fn word_of(bytes: &[u8]) -> String {
+    if bytes.is_empty() {
+        "-".to_owned()
+    } else {
+        hex(bytes)
+    }
+}
+
+fn call_line(record: &Record, room: &[u8]) -> String {
+    match record {
+        Record::Device {
+            now,
+            device,
+            stamp,
+            value,
+        } => format!("device {now} {device} {stamp} {value}"),
+        Record::Interrupt {
+            now,
+            number,
+            stamp,
+            address,
+        } => format!("interrupt {now} {number} {stamp} {address}"),
+        Record::Write { now, bytes } => format!("write {now} {}", word_of(bytes)),
+        Record::Seed { now, credit, bytes } => {
+            format!("seed {now} {credit} {}", word_of(bytes))
+        }
+        Record::Generator { now, .. } => format!("generator {now} {}", word_of(room)),
+        Record::Blocking { now, .. } => format!("blocking {now} {}", word_of(room)),
+    }
+}
+
+fn answer_line(answer: &Answer) -> String {
+    let Answer {
+        number,
+        delivered,
+        blocks,
+        compressions,
+    } = answer;
+    format!("answer {number} {delivered} {blocks} {compressions}")
+}
+
+fn keeper_line(k: &Keeper) -> String {
+    let mut line = format!(
+        "keeper {} {} {} {} {} {} {} {} {} {} {}",
+        k.input.count,
+        k.blocking.count,
+        k.input.position,
+        k.blocking.position,
+        k.input.rotation,
+        k.blocking.rotation,
+        k.last_value,
+        k.tally,
+        k.last_spill,
+        u8::from(k.seeded),
+        k.seeding_clock
+    );
+    let clocks = k.timers.iter().map(|t| i64::from(t.clock));
+    let firsts = k.timers.iter().map(|t| t.d1);
+    let seconds = k.timers.iter().map(|t| t.d2);
+    for number in clocks.chain(firsts).chain(seconds) {
+        line += &format!(" {number}");
+    }
+    let pools = k.input.words.iter().chain(&k.blocking.words);
+    for word in pools.chain(&k.fast).chain(&k.generator) {
+        line += &format!(" {word:08x}");
+    }
+    line
+}
+
+/// One field of a record, named as in the format.
+#[derive(Clone, Copy)]
+struct Place {
+    field: &'static str,
+    index: usize,
+}
+
+fn get(k: &Keeper, Place { field, index }: Place) -> i64 {
+    i64::from(match field {
+        "input-count" => k.input.count,
+        "blocking-count" => k.blocking.count,
+        "input-position" => k.input.position,
+        "blocking-position" => k.blocking.position,
+        "input-rotation" => k.input.rotation,
+        "blocking-rotation" => k.blocking.rotation,
+        "last-value" => k.last_value,
+        "tally" => k.tally,
+        "last-spill" => k.last_spill,
+        "seeded" => u32::from(k.seeded),
+        "seeding-clock" => k.seeding_clock,
+        "clock" => k.timers[index].clock,
+        "d1" => return k.timers[index].d1,
+        "d2" => return k.timers[index].d2,
+        "input-word" => k.input.words[index],
+        "blocking-word" => k.blocking.words[index],
+        "fast-word" => k.fast[index],
+        "generator-word" => k.generator[index],
+        _ => unreachable!("no field {field}"),
+    })
+}
+
+fn put(k: &mut Keeper, Place { field, index }: Place, value: i64) {
+    let word = value as u32;
+    match field {
+        "input-count" => k.input.count = word,
+        "blocking-count" => k.blocking.count = word,
+        "input-position" => k.input.position = word,
+        "blocking-position" => k.blocking.position = word,
+        "input-rotation" => k.input.rotation = word,
+        "blocking-rotation" => k.blocking.rotation = word,
+        "last-value" => k.last_value = word,
+        "tally" => k.tally = word,
+        "last-spill" => k.last_spill = word,
+        "seeded" => k.seeded = value != 0,
+        "seeding-clock" => k.seeding_clock = word,
+        "clock" => k.timers[index].clock = word,
+        "d1" => k.timers[index].d1 = value,
+        "d2" => k.timers[index].d2 = value,
+        "input-word" => k.input.words[index] = word,
+        "blocking-word" => k.blocking.words[index] = word,
+        "fast-word" => k.fast[index] = word,
+        "generator-word" => k.generator[index] = word,
+        _ => unreachable!("no field {field}"),
+    }
+}
+
+/// Every way to put a record out of range, each with the value just outside
+/// and one further off.
+fn ways_out() -> Vec<(Place, i64)> {
+    let mut ways = Vec::new();
+    let mut way = |field, index, values: &[i64]| {
+        for value in values {
+            ways.push((Place { field, index }, *value));
+        }
+    };
+    way("input-count", 0, &[i64::from(INPUT.size) + 1, 65_535]);
+    way("blocking-count", 0, &[i64::from(BLOCKING.size) + 1, 65_535]);
+    way("input-position", 0, &[128, 255]);
+    way("blocking-position", 0, &[32, 127, 255]);
+    way("input-rotation", 0, &[32, 255]);
+    way("blocking-rotation", 0, &[32, 255]);
+    way("tally", 0, &[64, 255]);
+    for device in 0..DEVICES {
+        way("d1", device, &[1 << 31, -(1 << 31) - 1]);
+        way("d2", device, &[1 << 32, -(1 << 32)]);
+    }
+    way("d1", 7, &[i64::MAX, i64::MIN]);
+    way("d2", 7, &[i64::MAX, i64::MIN]);
+    for index in 0..4 {
+        way("generator-word", index, &[0, 0x7962_2d33]);
+    }
+    ways
+}
+
+/// A value at an edge of what a field may hold.
+fn edge(random: &mut Random) -> (Place, i64) {
+    let any = i64::from(random.u32());
+    let clock = random.pick(&[0, any, 1 << 31, u32::MAX.into()]);
+    let device = random.below(DEVICES as u64) as usize;
+    let (field, index, value) = match random.below(18) {
+        0 | 1 => {
+            let counts = [
+                0, 63, 64, 511, 512, 1_023, 1_024, 2_047, 2_048, 4_096, 32_761, 32_762, 32_766,
+                32_767, 32_768,
+            ];
+            ("input-count", 0, random.pick(&counts))
+        }
+        2 | 3 => {
+            let counts = [
+                0, 63, 64, 65, 511, 512, 4_096, 8_128, 8_189, 8_190, 8_191, 8_192,
+            ];
+            ("blocking-count", 0, random.pick(&counts))
+        }
+        4 => ("input-position", 0, random.pick(&[0, 1, 16, 127])),
+        5 => ("blocking-position", 0, random.pick(&[0, 1, 20, 31])),
+        6 => ("input-rotation", 0, random.pick(&[0, 1, 18, 25, 31])),
+        7 => ("blocking-rotation", 0, random.pick(&[0, 1, 18, 25, 31])),
+        8 => ("tally", 0, random.pick(&[0, 62, 63])),
+        9 => {
+            let ends = [-(1 << 31), 1 - (1 << 31), 0, (1 << 31) - 1];
+            ("d1", device, random.pick(&ends))
+        }
+        10 => {
+            let ends = [1 - (1 << 32), 2 - (1 << 32), 0, (1 << 32) - 1];
+            ("d2", device, random.pick(&ends))
+        }
+        11 => {
+            let index = random.pick(&[12, 12, 13]);
+            let ends = [0, u32::MAX.into(), i64::from(u32::MAX) - 1];
+            ("generator-word", index, random.pick(&ends))
+        }
+        12 => ("seeded", 0, random.pick(&[0, 1, 1])),
+        13 => ("seeding-clock", 0, clock),
+        14 => ("last-spill", 0, clock),
+        15 => ("clock", device, clock),
+        16 => ("last-value", 0, random.pick(&[0, 1, any])),
+        _ => {
+            let index = random.below(32) as usize;
+            match random.below(3) {
+                0 => ("fast-word", index % 4, any),
+                1 => ("blocking-word", index, any),
+                _ => ("input-word", index * 4, any),
+            }
+        }
+    };
+    (Place { field, index }, value)
+}
+
+struct Trace<'a> {
+    out: &'a mut dyn Write,
+    keeper: Keeper,
+}
+
+impl Trace<'_> {
+    fn put(&mut self, place: Place, value: i64) -> io::Result<()> {
+        put(&mut self.keeper, place, value);
+        let Place { field, index } = place;
+        writeln!(self.out, "put {field} {index} {value}")
+    }
+
+    fn call(&mut self, random: &mut Random, now: u32) -> io::Result<()> {
+        let large = random.one_in(12);
+        let mut record = any_record(random, &self.keeper, now, large);
+        if random.one_in(40) {
+            // Too long by one, with a credit that is fine or too much.
+            let bytes = random.bytes(LONGEST + 1).into();
+            let credit = random.pick(&[0, 8 * 4_097, u32::MAX]);
+            record = match random.below(2) {
+                0 => Record::Write { now, bytes },
+                _ => Record::Seed { now, credit, bytes },
+            };
+        }
+        let mut room = match &record {
+            Record::Generator { length, .. } | Record::Blocking { length, .. } => {
+                random.bytes(usize::from(*length))
+            }
+            _ => Vec::new(),
+        };
+        writeln!(self.out, "{}", call_line(&record, &room))?;
+        let answer = perform_into(&mut self.keeper, &record, &mut room);
+        writeln!(self.out, "{}", answer_line(&answer))?;
+        writeln!(self.out, "room {}", word_of(&room))?;
+        writeln!(self.out, "{}", keeper_line(&self.keeper))
+    }
+}
+
+/// Writes `count` sequences.
+pub fn calls(seed: u64, count: u64, out: &mut dyn Write) -> io::Result<()> {
+    write!(out, "{FORMAT}")?;
+    // Taken in turn over the whole trace, so that each way comes up.
+    let mut ways = ways_out().into_iter().cycle();
+    for number in 1..=count {
+        let random = &mut Random::new(!seed, number);
+        writeln!(out, "sequence {number}")?;
+        if random.one_in(3) {
+            let length = random.pick(&[0, 1, 47, 49, 96]);
+            let bytes = random.bytes(length);
+            writeln!(out, "make {}", word_of(&bytes))?;
+            writeln!(out, "answer {BAD_START} 0 0 0\nroom -\nkeeper none")?;
+        }
+        let start: [u8; START] = start(random);
+        let keeper = Keeper::make(&start).expect("the start has its length");
+        writeln!(out, "make {}", hex(&start))?;
+        writeln!(out, "answer 0 0 0 0\nroom -\n{}", keeper_line(&keeper))?;
+
+        let mut trace = Trace { out, keeper };
+        let pace = Pace::any(random);
+        let mut now = first_clock(random);
+        if random.one_in(2) {
+            for _ in 0..random.between(3, 12) {
+                let (place, value) = edge(random);
+                trace.put(place, value)?;
+            }
+        }
+        for _ in 0..random.between(8, 24) {
+            now = pace.next(random, now);
+            match random.below(6) {
+                0 => {
+                    let (place, value) = ways.next().expect("a cycle goes on");
+                    let kept = get(&trace.keeper, place);
+                    trace.put(place, value)?;
+                    trace.call(random, now)?;
+                    trace.put(place, kept)?;
+                }
+                1 => {
+                    let (place, value) = edge(random);
+                    trace.put(place, value)?;
+                    trace.call(random, now)?;
+                }
+                _ => trace.call(random, now)?,
+            }
+        }
+    }
+    Ok(())
+}
+
+#[cfg(test)]
+mod tests {
+    use super::*;
+    use crate::keeper::OUT_OF_RANGE;
+    use std::collections::BTreeSet;
+
+    fn trace(seed: u64, count: u64) -> String {
+        let mut out = Vec::new();
+        calls(seed, count, &mut out).unwrap();
+        String::from_utf8(out).unwrap()
+    }
+
+    fn bytes(word: &str) -> Vec<u8> {
+        if word == "-" {
+            return Vec::new();
+        }
+        (0..word.len())
+            .step_by(2)
+            .map(|i| u8::from_str_radix(&word[i..i + 2], 16).unwrap())
+            .collect()
+    }
+
+    fn number<T: std::str::FromStr<Err: std::fmt::Debug>>(word: &str) -> T {
+        word.parse().unwrap()
+    }
+
+    const FIELDS: [&str; 18] = [
+        "input-count",
+        "blocking-count",
+        "input-position",
+        "blocking-position",
+        "input-rotation",
+        "blocking-rotation",
+        "last-value",
+        "tally",
+        "last-spill",
+        "seeded",
+        "seeding-clock",
+        "clock",
+        "d1",
+        "d2",
+        "input-word",
+        "blocking-word",
+        "fast-word",
+        "generator-word",
+    ];
+
+    /// Follows a trace by its text alone, as another program would.
+    #[test]
+    fn a_trace_says_all_that_is_needed_to_follow_it() {
+        let text = trace(8, 120);
+        let mut lines = text.lines().filter(|l| !l.starts_with('#'));
+        let mut keeper: Option<Keeper> = None;
+        let mut seen = BTreeSet::new();
+        let mut refused = 0;
+        while let Some(line) = lines.next() {
+            let w: Vec<&str> = line.split(' ').collect();
+            let mut room = Vec::new();
+            let answer = match w[0] {
+                "sequence" => {
+                    keeper = None;
+                    continue;
+                }
+                "put" => {
+                    let field = FIELDS.into_iter().find(|f| *f == w[1]).unwrap();
+                    let index = number(w[2]);
+                    put(
+                        keeper.as_mut().unwrap(),
+                        Place { field, index },
+                        number(w[3]),
+                    );
+                    continue;
+                }
+                "make" => match Keeper::make(&bytes(w[1])) {
+                    Ok(made) => {
+                        keeper = Some(made);
+                        Answer::default()
+                    }
+                    Err(number) => Answer {
+                        number,
+                        ..Answer::default()
+                    },
+                },
+                kind => {
+                    let k = keeper.as_mut().unwrap();
+                    let now = number(w[1]);
+                    match kind {
+                        "device" => k.device_event(number(w[2]), now, number(w[3]), number(w[4])),
+                        "interrupt" => k.interrupt(now, number(w[2]), number(w[3]), number(w[4])),
+                        "write" => k.write(&bytes(w[2])),
+                        "seed" => k.seed(now, &bytes(w[3]), number(w[2])),
+                        "generator" => {
+                            room = bytes(w[2]);
+                            k.generator_read(now, &mut room)
+                        }
+                        "blocking" => {
+                            room = bytes(w[2]);
+                            k.blocking_read(&mut room)
+                        }
+                        other => panic!("{other}"),
+                    }
+                }
+            };
+            seen.insert(answer.number);
+            refused += u32::from(answer.number == OUT_OF_RANGE);
+            assert_eq!(lines.next().unwrap(), answer_line(&answer));
+            assert_eq!(lines.next().unwrap(), format!("room {}", word_of(&room)));
+            let expected = keeper
+                .as_ref()
+                .map_or("keeper none".to_owned(), keeper_line);
+            assert_eq!(lines.next().unwrap(), expected);
+        }
+        assert_eq!(seen, BTreeSet::from([0, 1, 2, 3, 4, 5, 6, 7, 17]));
+        assert!(refused as usize >= ways_out().len());
+    }
+
+    #[test]
+    fn every_way_out_is_out_of_range_and_no_edge_is() {
+        for (place, value) in ways_out() {
+            let mut keeper = Keeper::make(&[0; START]).unwrap();
+            put(&mut keeper, place, value);
+            assert!(!keeper.in_range());
+            assert_eq!(get(&keeper, place), value);
+        }
+        let mut random = Random::new(1, 1);
+        for _ in 0..2_000 {
+            let mut keeper = Keeper::make(&[0; START]).unwrap();
+            let (place, value) = edge(&mut random);
+            put(&mut keeper, place, value);
+            assert!(keeper.in_range());
+            assert_eq!(get(&keeper, place), value);
+        }
+    }
+
+    #[test]
+    fn a_keeper_line_has_all_its_words() {
+        let keeper = Keeper::make(&[0; START]).unwrap();
+        let line = keeper_line(&keeper);
+        assert_eq!(line.split(' ').count(), 1 + 11 + 48 + 180);
+    }
+}

@@ -1,0 +1,478 @@
+//! The journal: its header, its records, reading and writing both.
+
+use std::borrow::Cow;
+use std::fmt;
+
+use crate::keeper::{LONGEST, START, TOO_LONG};
+
+// The numbers that only a replay ends with.
+pub const WRONG_MARK: u8 = 8;
+pub const WRONG_VERSION: u8 = 9;
+pub const CUT_SHORT: u8 = 10;
+pub const UNKNOWN_KIND: u8 = 11;
+pub const TOO_LARGE: u8 = 12;
+
+pub const MARK: [u8; 3] = *b"NKJ";
+pub const VERSION: u16 = 1;
+/// Mark, version and start bytes.
+pub const HEADER: usize = MARK.len() + 2 + START;
+/// The largest journal that is replayed.
+pub const LARGEST: usize = 61_440;
+
+#[derive(Clone, Debug, PartialEq)]
+pub enum Record<'a> {
+    Device {
+        now: u32,
+        device: u8,
+        stamp: u64,
+        value: u32,
+    },
+    Interrupt {
+        now: u32,
+        number: u32,
+        stamp: u64,
+        address: u64,
+    },
+    Write {
+        now: u32,
+        bytes: Cow<'a, [u8]>,
+    },
+    Seed {
+        now: u32,
+        credit: u32,
+        bytes: Cow<'a, [u8]>,
+    },
+    Generator {
+        now: u32,
+        length: u16,
+    },
+    Blocking {
+        now: u32,
+        length: u16,
+    },
+}
+
+/// Tests the header. Gives the start bytes and the records after them, or
+/// the number that ends the replay before its first record.
+pub fn open(journal: &[u8]) -> Result<(&[u8], Records<'_>), u8> {
+    if journal.len() > LARGEST {
+        return Err(TOO_LARGE);
+    }
+    let rest = journal.strip_prefix(&MARK).ok_or(WRONG_MARK)?;
+    let (version, rest) = rest.split_first_chunk().ok_or(CUT_SHORT)?;
+    if u16::from_le_bytes(*version) != VERSION {
+        return Err(WRONG_VERSION);
+    }
+    let (start, rest) = rest.split_at_checked(START).ok_or(CUT_SHORT)?;
+    Ok((start, Records::new(rest)))
+}
+
+/// The records of a journal in their order. An `Err` holds the number that
+/// ends the replay and is the last item.
+pub struct Records<'a> {
+    rest: &'a [u8],
+}
+
+impl<'a> Records<'a> {
+    pub fn new(rest: &'a [u8]) -> Records<'a> {
+        Records { rest }
+    }
+
+    /// What has not been read yet.
+    pub fn rest(&self) -> &'a [u8] {
+        self.rest
+    }
+}
+
+impl<'a> Iterator for Records<'a> {
+    type Item = Result<Record<'a>, u8>;
+
+    fn next(&mut self) -> Option<Self::Item> {
+        if self.rest.is_empty() {
+            return None;
+        }
+        let mut fields = Fields { rest: self.rest };
+        let record = fields.record();
+        self.rest = if record.is_ok() { fields.rest } else { &[] };
+        Some(record)
+    }
+}
+
+/// Takes fields off the front of what is left of a journal.
+struct Fields<'a> {
+    rest: &'a [u8],
+}
+
+impl<'a> Fields<'a> {
+    fn take<const N: usize>(&mut self) -> Result<[u8; N], u8> {
+        let (field, rest) = self.rest.split_first_chunk().ok_or(CUT_SHORT)?;
+        self.rest = rest;
+        Ok(*field)
+    }
+
+    fn u8(&mut self) -> Result<u8, u8> {
+        self.take().map(u8::from_le_bytes)
+    }
+
+    fn u16(&mut self) -> Result<u16, u8> {
+        self.take().map(u16::from_le_bytes)
+    }
+
+    fn u32(&mut self) -> Result<u32, u8> {
+        self.take().map(u32::from_le_bytes)
+    }
+
+    fn u64(&mut self) -> Result<u64, u8> {
+        self.take().map(u64::from_le_bytes)
+    }
+
+    /// The bytes of a write or seed, a part of the journal itself. A length
+    /// out of bounds counts before bytes that are missing.
+    fn bytes(&mut self, length: u16) -> Result<Cow<'a, [u8]>, u8> {
+        let length = usize::from(length);
+        if length > LONGEST {
+            return Err(TOO_LONG);
+        }
+        let (bytes, rest) = self.rest.split_at_checked(length).ok_or(CUT_SHORT)?;
+        self.rest = rest;
+        Ok(Cow::Borrowed(bytes))
+    }
+
+    fn record(&mut self) -> Result<Record<'a>, u8> {
+        let kind = self.u8()?;
+        if !(1..=6).contains(&kind) {
+            return Err(UNKNOWN_KIND);
+        }
+        let now = self.u32()?;
+        Ok(match kind {
+            1 => Record::Device {
+                now,
+                device: self.u8()?,
+                stamp: self.u64()?,
+                value: self.u32()?,
+            },
+            2 => Record::Interrupt {
+                now,
+                number: self.u32()?,
+                stamp: self.u64()?,
+                address: self.u64()?,
+            },
+            3 => {
+                let length = self.u16()?;
+                let bytes = self.bytes(length)?;
+                Record::Write { now, bytes }
+            }
+            4 => {
+                let length = self.u16()?;
+                let credit = self.u32()?;
+                let bytes = self.bytes(length)?;
+                Record::Seed { now, credit, bytes }
+            }
+            5 => Record::Generator {
+                now,
+                length: self.u16()?,
+            },
+            _ => Record::Blocking {
+                now,
+                length: self.u16()?,
+            },
+        })
+    }
+}
+
+/// The header of a good journal with these start bytes.
+pub fn header(start: &[u8; START]) -> Vec<u8> {
+    let mut out = MARK.to_vec();
+    out.extend(VERSION.to_le_bytes());
+    out.extend(start);
+    out
+}
+
+impl Record<'_> {
+    /// Puts the record at the end of a journal. Bytes that no length field
+    /// can hold are a mistake of the caller.
+    pub fn write(&self, out: &mut Vec<u8>) {
+        let length = |bytes: &[u8]| u16::try_from(bytes.len()).expect("too many bytes");
+        match self {
+            Record::Device {
+                now,
+                device,
+                stamp,
+                value,
+            } => {
+                out.push(1);
+                out.extend(now.to_le_bytes());
+                out.push(*device);
+                out.extend(stamp.to_le_bytes());
+                out.extend(value.to_le_bytes());
+            }
+            Record::Interrupt {
+                now,
+                number,
+                stamp,
+                address,
+            } => {
+                out.push(2);
+                out.extend(now.to_le_bytes());
+                out.extend(number.to_le_bytes());
+                out.extend(stamp.to_le_bytes());
+                out.extend(address.to_le_bytes());
+            }
+            Record::Write { now, bytes } => {
+                out.push(3);
+                out.extend(now.to_le_bytes());
+                out.extend(length(bytes).to_le_bytes());
+                out.extend_from_slice(bytes);
+            }
+            Record::Seed { now, credit, bytes } => {
+                out.push(4);
+                out.extend(now.to_le_bytes());
+                out.extend(length(bytes).to_le_bytes());
+                out.extend(credit.to_le_bytes());
+                out.extend_from_slice(bytes);
+            }
+            Record::Generator { now, length } => {
+                out.push(5);
+                out.extend(now.to_le_bytes());
+                out.extend(length.to_le_bytes());
+            }
+            Record::Blocking { now, length } => {
+                out.push(6);
+                out.extend(now.to_le_bytes());
+                out.extend(length.to_le_bytes());
+            }
+        }
+    }
+
+    pub fn to_bytes(&self) -> Vec<u8> {
+        let mut out = Vec::new();
+        self.write(&mut out);
+        out
+    }
+}
+
+/// Lowercase hex.
+pub fn hex(bytes: &[u8]) -> String {
+    bytes.iter().map(|b| format!("{b:02x}")).collect()
+}
+
+/// Hex for a reader's eye: long bytes are broken off.
+fn short_hex(bytes: &[u8]) -> String {
+    const SHOWN: usize = 48;
+    if bytes.len() <= SHOWN {
+        hex(bytes)
+    } else {
+        format!("{}..", hex(&bytes[..SHOWN]))
+    }
+}
+
+impl fmt::Display for Record<'_> {
+    fn fmt(&self, f: &mut fmt::Formatter<'_>) -> fmt::Result {
+        match self {
+            Record::Device {
+                now,
+                device,
+                stamp,
+                value,
+            } => write!(
+                f,
+                "device event    now {now} device {device} stamp {stamp:#x} value {value:#x}"
+            ),
+            Record::Interrupt {
+                now,
+                number,
+                stamp,
+                address,
+            } => write!(
+                f,
+                "interrupt       now {now} number {number:#x} stamp {stamp:#x} address {address:#x}"
+            ),
+            Record::Write { now, bytes } => {
+                let length = bytes.len();
+                let bytes = short_hex(bytes);
+                write!(f, "write           now {now} length {length} bytes {bytes}")
+            }
+            Record::Seed { now, credit, bytes } => {
+                let length = bytes.len();
+                let bytes = short_hex(bytes);
+                write!(
+                    f,
+                    "seed            now {now} length {length} credit {credit} bytes {bytes}"
+                )
+            }
+            Record::Generator { now, length } => {
+                write!(f, "generator read  now {now} length {length}")
+            }
+            Record::Blocking { now, length } => {
+                write!(f, "blocking read   now {now} length {length}")
+            }
+        }
+    }
+}
+
+/// A readable listing of a journal, damaged or not.
+pub fn listing(journal: &[u8]) -> String {
+    let mut out = format!("{} bytes\n", journal.len());
+    let (start, mut records) = match open(journal) {
+        Ok(opened) => opened,
+        Err(number) => {
+            out += &format!(
+                "header: {}\n",
+                short_hex(&journal[..journal.len().min(HEADER)])
+            );
+            out += &format!("ends with {number} at the header\n");
+            return out;
+        }
+    };
+    out += &format!("start {}\n", hex(start));
+    let mut line = 1;
+    loop {
+        let at = journal.len() - records.rest().len();
+        match records.next() {
+            Some(Ok(record)) => out += &format!("{line:4} at {at:5}  {record}\n"),
+            Some(Err(number)) => {
+                out += &format!("{line:4} at {at:5}  {}\n", short_hex(&journal[at..]));
+                out += &format!("ends with {number} at byte {at}\n");
+                return out;
+            }
+            None => {
+                out += "ends with 0\n";
+                return out;
+            }
+        }
+        line += 1;
+    }
+}
+
+#[cfg(test)]
+mod tests {
+    use super::*;
+
+    fn one_of_each() -> Vec<Record<'static>> {
+        vec![
+            Record::Device {
+                now: 0x0102_0304,
+                device: 5,
+                stamp: 0x1112_1314_1516_1718,
+                value: 0x2122_2324,
+            },
+            Record::Interrupt {
+                now: 1,
+                number: 2,
+                stamp: 3,
+                address: 4,
+            },
+            Record::Write {
+                now: 1,
+                bytes: Cow::Borrowed(&[7, 8, 9]),
+            },
+            Record::Seed {
+                now: 1,
+                credit: 24,
+                bytes: Cow::Borrowed(&[7, 8, 9]),
+            },
+            Record::Generator { now: 1, length: 4 },
+            Record::Blocking {
+                now: 1,
+                length: 65_535,
+            },
+        ]
+    }
+
+    fn journal(records: &[Record]) -> Vec<u8> {
+        let mut out = header(&[1; START]);
+        for record in records {
+            record.write(&mut out);
+        }
+        out
+    }
+
+    fn ending(journal: &[u8]) -> u8 {
+        match open(journal) {
+            Err(number) => number,
+            Ok((_, mut records)) => records.find_map(Result::err).unwrap_or(0),
+        }
+    }
+
+    #[test]
+    fn what_is_written_is_read_back() {
+        let records = one_of_each();
+        let journal = journal(&records);
+        let (start, read) = open(&journal).unwrap();
+        assert_eq!(start, [1; START]);
+        assert_eq!(read.map(Result::unwrap).collect::<Vec<_>>(), records);
+    }
+
+    #[test]
+    fn layout_of_a_device_event() {
+        assert_eq!(
+            hex(&one_of_each()[0].to_bytes()),
+            "0104030201051817161514131211".to_owned() + "24232221"
+        );
+    }
+
+    #[test]
+    fn bytes_are_lent_not_copied() {
+        let journal = journal(&one_of_each());
+        for record in open(&journal).unwrap().1 {
+            if let Record::Write { bytes, .. } | Record::Seed { bytes, .. } = record.unwrap() {
+                assert!(matches!(bytes, Cow::Borrowed(_)));
+            }
+        }
+    }
+
+    #[test]
+    fn every_cut_ends_with_its_number() {
+        let records = one_of_each();
+        let whole = journal(&records);
+        let mut bounds = vec![HEADER];
+        for record in &records {
+            bounds.push(bounds.last().unwrap() + record.to_bytes().len());
+        }
+        for cut in 0..=whole.len() {
+            let expected = match cut {
+                0..=2 => WRONG_MARK,
+                _ if bounds.contains(&cut) => 0,
+                _ => CUT_SHORT,
+            };
+            assert_eq!(ending(&whole[..cut]), expected, "cut at {cut}");
+        }
+    }
+
+    #[test]
+    fn order_of_the_tests() {
+        let good = journal(&one_of_each());
+        let mut large = vec![0; LARGEST + 1];
+        assert_eq!(ending(&large), TOO_LARGE);
+        large.pop();
+        assert_eq!(ending(&large), WRONG_MARK);
+        assert_eq!(ending(b"NKX"), WRONG_MARK);
+        assert_eq!(ending(b"NKJ\x02"), CUT_SHORT);
+        assert_eq!(ending(b"NKJ\x02\x00"), WRONG_VERSION);
+        assert_eq!(ending(b"NKJ\x00\x01"), WRONG_VERSION);
+        assert_eq!(ending(b"NKJ\x01\x00"), CUT_SHORT);
+
+        let after = |tail: &[u8]| ending(&[&good[..HEADER], tail].concat());
+        assert_eq!(after(&[0]), UNKNOWN_KIND);
+        assert_eq!(after(&[7]), UNKNOWN_KIND);
+        assert_eq!(after(&[3, 0, 0, 0, 0, 1]), CUT_SHORT);
+        assert_eq!(after(&[3, 0, 0, 0, 0, 1, 16]), TOO_LONG);
+        assert_eq!(after(&[3, 0, 0, 0, 0, 0, 16]), CUT_SHORT);
+        // The credit is a field too: it must be there before the length counts.
+        assert_eq!(after(&[4, 0, 0, 0, 0, 1, 16]), CUT_SHORT);
+        assert_eq!(after(&[4, 0, 0, 0, 0, 1, 16, 0, 0, 0, 0]), TOO_LONG);
+        assert_eq!(after(&[5, 0, 0, 0, 0, 255, 255]), 0);
+    }
+
+    #[test]
+    fn a_journal_of_the_largest_size_is_read() {
+        let mut journal = journal(&[]);
+        while journal.len() < LARGEST {
+            let room = (LARGEST - journal.len() - 7).min(4_000);
+            let bytes = Cow::Owned(vec![0; room]);
+            Record::Write { now: 0, bytes }.write(&mut journal);
+        }
+        assert_eq!(journal.len(), LARGEST);
+        assert_eq!(ending(&journal), 0);
+    }
+}

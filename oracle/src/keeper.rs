@@ -1,0 +1,586 @@
+//! The keeper record and the calls on it.
+
+use crate::cipher;
+use crate::credits::{clock_difference, credited, debited, estimate};
+use crate::pools::{Pool, BLOCKING, INPUT};
+
+// The numbers a call gives back.
+pub const DONE: u8 = 0;
+pub const WOULD_BLOCK: u8 = 1;
+pub const UNSEEDED: u8 = 2;
+pub const TOO_LONG: u8 = 3;
+pub const NO_DEVICE: u8 = 4;
+pub const TOO_MUCH_CREDIT: u8 = 5;
+pub const BAD_START: u8 = 6;
+pub const REPEATED: u8 = 7;
+pub const OUT_OF_RANGE: u8 = 17;
+
+/// The start bytes of a keeper.
+pub const START: usize = 48;
+/// The longest write, seed or read.
+pub const LONGEST: usize = 4_096;
+pub const DEVICES: usize = 16;
+
+/// Interrupts that make the fast pool spill, and the ticks after which it
+/// spills anyway.
+const SPILL_TALLY: u32 = 64;
+const SPILL_TICKS: i64 = 1_000;
+/// The ticks after which a generator read asks for a new key first.
+const RESEED_TICKS: i64 = 300_000;
+/// The input count at which an unseeded keeper seeds itself.
+const SEED_COUNT: u32 = 1_024;
+
+const D1_LEAST: i64 = -(1 << 31);
+const D1_MOST: i64 = (1 << 31) - 1;
+const D2_MOST: i64 = (1 << 32) - 1;
+
+/// What a device left behind at its last event.
+#[derive(Clone, Copy, Debug, Default, PartialEq)]
+pub struct Timer {
+    pub clock: u32,
+    pub d1: i64,
+    pub d2: i64,
+}
+
+#[derive(Clone, Debug, PartialEq)]
+pub struct Keeper {
+    pub input: Pool,
+    pub blocking: Pool,
+    pub timers: [Timer; DEVICES],
+    /// The value of device 0's last event.
+    pub last_value: u32,
+    pub fast: [u32; 4],
+    pub tally: u32,
+    pub last_spill: u32,
+    pub generator: [u32; 16],
+    pub seeded: bool,
+    pub seeding_clock: u32,
+}
+
+/// What a call answers, with the work it did.
+#[derive(Clone, Copy, Debug, Default, PartialEq)]
+pub struct Answer {
+    pub number: u8,
+    pub delivered: usize,
+    pub blocks: u64,
+    pub compressions: u64,
+}
+
+impl Answer {
+    fn refusal(number: u8) -> Answer {
+        Answer {
+            number,
+            ..Answer::default()
+        }
+    }
+
+    fn worked(compressions: u64) -> Answer {
+        Answer {
+            compressions,
+            ..Answer::default()
+        }
+    }
+}
+
+impl Keeper {
+    /// A fresh keeper, or number 6 where the start has the wrong length.
+    pub fn make(start: &[u8]) -> Result<Keeper, u8> {
+        if start.len() != START {
+            return Err(BAD_START);
+        }
+        let mut generator = [0; 16];
+        generator[..4].copy_from_slice(&cipher::CONSTANTS);
+        for (word, part) in generator[4..].iter_mut().zip(start.chunks_exact(4)) {
+            *word = u32::from_le_bytes([part[0], part[1], part[2], part[3]]);
+        }
+        Ok(Keeper {
+            input: Pool::fresh(&INPUT),
+            blocking: Pool::fresh(&BLOCKING),
+            timers: [Timer::default(); DEVICES],
+            last_value: 0,
+            fast: [0; 4],
+            tally: 0,
+            last_spill: 0,
+            generator,
+            seeded: false,
+            seeding_clock: 0,
+        })
+    }
+
+    /// Whether a lent record is one that a keeper could work with.
+    pub fn in_range(&self) -> bool {
+        self.input.in_range()
+            && self.blocking.in_range()
+            && self.tally < SPILL_TALLY
+            && self.timers.iter().all(|t| {
+                (D1_LEAST..=D1_MOST).contains(&t.d1) && (-D2_MOST..=D2_MOST).contains(&t.d2)
+            })
+            && self.generator[..4] == cipher::CONSTANTS
+    }
+
+    pub fn device_event(&mut self, device: u8, now: u32, stamp: u64, value: u32) -> Answer {
+        if !self.in_range() {
+            return Answer::refusal(OUT_OF_RANGE);
+        }
+        let Some(&last) = self.timers.get(usize::from(device)) else {
+            return Answer::refusal(NO_DEVICE);
+        };
+        if device == 0 {
+            if value == self.last_value {
+                return Answer::refusal(REPEATED);
+            }
+            self.last_value = value;
+        }
+        self.input.mix(&stamp.to_le_bytes());
+        self.input.mix(&now.to_le_bytes());
+        self.input.mix(&value.to_le_bytes());
+
+        let d1 = clock_difference(now, last.clock);
+        let d2 = d1 - last.d1;
+        let d3 = d2 - last.d2;
+        self.timers[usize::from(device)] = Timer { clock: now, d1, d2 };
+        Answer::worked(self.credit_input(estimate(d1, d2, d3), now))
+    }
+
+    pub fn interrupt(&mut self, now: u32, number: u32, stamp: u64, address: u64) -> Answer {
+        if !self.in_range() {
+            return Answer::refusal(OUT_OF_RANGE);
+        }
+        let [a, b, c, d] = self.fast;
+        self.fast = stir([
+            a ^ low(stamp) ^ number,
+            b ^ now ^ high(stamp),
+            c ^ low(address),
+            d ^ high(address),
+        ]);
+        self.tally += 1;
+        // A clock that ran back is a short wait, not a long one.
+        let waited = clock_difference(now, self.last_spill);
+        if self.tally < SPILL_TALLY && waited <= SPILL_TICKS {
+            return Answer::default();
+        }
+        for word in self.fast {
+            self.input.mix(&word.to_le_bytes());
+        }
+        self.tally = 0;
+        self.last_spill = now;
+        Answer::worked(self.credit_input(1, now))
+    }
+
+    pub fn write(&mut self, bytes: &[u8]) -> Answer {
+        if !self.in_range() {
+            return Answer::refusal(OUT_OF_RANGE);
+        }
+        if bytes.len() > LONGEST {
+            return Answer::refusal(TOO_LONG);
+        }
+        self.input.mix(bytes);
+        Answer::default()
+    }
+
+    pub fn seed(&mut self, now: u32, bytes: &[u8], bits: u32) -> Answer {
+        if !self.in_range() {
+            return Answer::refusal(OUT_OF_RANGE);
+        }
+        if bytes.len() > LONGEST {
+            return Answer::refusal(TOO_LONG);
+        }
+        if bits as usize > 8 * bytes.len() {
+            return Answer::refusal(TOO_MUCH_CREDIT);
+        }
+        self.input.mix(bytes);
+        Answer::worked(self.credit_input(bits, now))
+    }
+
+    /// Fills the whole room, or leaves all of it alone.
+    pub fn generator_read(&mut self, now: u32, room: &mut [u8]) -> Answer {
+        if !self.in_range() {
+            return Answer::refusal(OUT_OF_RANGE);
+        }
+        if room.len() > LONGEST {
+            return Answer::refusal(TOO_LONG);
+        }
+        if room.is_empty() {
+            return Answer::default();
+        }
+        if !self.seeded {
+            return Answer::refusal(UNSEEDED);
+        }
+        let mut answer = Answer {
+            delivered: room.len(),
+            ..Answer::default()
+        };
+        if clock_difference(now, self.seeding_clock) > RESEED_TICKS {
+            answer.compressions = self.reseed(now);
+        }
+        let mut block = [0; 16];
+        let mut used = 0;
+        for part in room.chunks_mut(64) {
+            block = self.next_block();
+            answer.blocks += 1;
+            part.copy_from_slice(&cipher::bytes(&block)[..part.len()]);
+            used = part.len().div_ceil(4);
+        }
+        // The key changes after every read, by words nobody was given: those
+        // left in the last block, or a whole new block's where too few are.
+        if used + 8 > 16 {
+            block = self.next_block();
+            answer.blocks += 1;
+            used = 0;
+        }
+        for (key, word) in self.generator[4..12].iter_mut().zip(&block[used..]) {
+            *key ^= word;
+        }
+        answer
+    }
+
+    /// Fills the beginning of the room as far as the blocking pool is good for.
+    pub fn blocking_read(&mut self, room: &mut [u8]) -> Answer {
+        if !self.in_range() {
+            return Answer::refusal(OUT_OF_RANGE);
+        }
+        let wanted = room.len();
+        if wanted > LONGEST {
+            return Answer::refusal(TOO_LONG);
+        }
+        if wanted == 0 {
+            return Answer::default();
+        }
+        if self.blocking.count < 64 && self.input.count < 512 {
+            return Answer::refusal(WOULD_BLOCK);
+        }
+        let mut answer = Answer::default();
+        if (self.blocking.count as usize) < 64 * wanted {
+            answer.compressions += self.refill_blocking(wanted);
+        }
+        let (taken, left) = debited(self.blocking.count, wanted, 0);
+        self.blocking.count = left;
+        let (bytes, compressions) = self.blocking.extract(taken);
+        answer.compressions += compressions;
+        answer.delivered = taken;
+        room[..taken].copy_from_slice(&bytes);
+        answer
+    }
+
+    /// Moves bytes from the input pool to the blocking pool.
+    fn refill_blocking(&mut self, wanted: usize) -> u64 {
+        let (taken, left) = debited(self.input.count, wanted.clamp(8, 128), 8);
+        self.input.count = left;
+        let (bytes, compressions) = self.input.extract(taken);
+        self.blocking.mix(&bytes);
+        self.blocking.count = credited(self.blocking.count, BLOCKING.size, 8 * taken as u32);
+        compressions
+    }
+
+    /// Credits the input pool, which may seed the keeper for the first time.
+    fn credit_input(&mut self, bits: u32, now: u32) -> u64 {
+        self.input.count = credited(self.input.count, INPUT.size, bits);
+        if bits > 0 && !self.seeded && self.input.count >= SEED_COUNT {
+            self.reseed(now)
+        } else {
+            0
+        }
+    }
+
+    /// Brings bytes of the input pool into the key, if there are enough.
+    fn reseed(&mut self, now: u32) -> u64 {
+        let (taken, left) = debited(self.input.count, 32, 16);
+        if taken == 0 {
+            return 0;
+        }
+        self.input.count = left;
+        let (bytes, compressions) = self.input.extract(taken);
+        for (i, byte) in bytes.into_iter().enumerate() {
+            self.generator[4 + i / 4] ^= u32::from(byte) << (8 * (i % 4));
+        }
+        self.seeding_clock = now;
+        self.seeded = true;
+        compressions
+    }
+
+    fn next_block(&mut self) -> [u32; 16] {
+        let block = cipher::block(&self.generator);
+        self.generator[12] = self.generator[12].wrapping_add(1);
+        if self.generator[12] == 0 {
+            self.generator[13] = self.generator[13].wrapping_add(1);
+        }
+        block
+    }
+}
+
+fn low(number: u64) -> u32 {
+    number as u32
+}
+
+fn high(number: u64) -> u32 {
+    (number >> 32) as u32
+}
+
+/// The stirring of the fast pool after an interrupt came in.
+fn stir([mut a, mut b, mut c, mut d]: [u32; 4]) -> [u32; 4] {
+    for (turn_b, turn_d) in [(6, 27), (16, 14), (6, 27), (16, 14)] {
+        a = a.wrapping_add(b);
+        c = c.wrapping_add(d);
+        b = b.rotate_left(turn_b);
+        d = d.rotate_left(turn_d);
+        d ^= a;
+        b ^= c;
+    }
+    [a, b, c, d]
+}
+
+#[cfg(test)]
+mod tests {
+    use super::*;
+
+    fn fresh() -> Keeper {
+        Keeper::make(&[0; START]).unwrap()
+    }
+
+    /// A keeper after one seed call that names this many bits.
+    fn after_credit(bits: u32) -> (Keeper, Answer) {
+        let mut keeper = fresh();
+        let bytes = vec![0x5a; (bits as usize).div_ceil(8)];
+        let answer = keeper.seed(7, &bytes, bits);
+        (keeper, answer)
+    }
+
+    fn counter(keeper: &Keeper) -> u64 {
+        u64::from(keeper.generator[13]) << 32 | u64::from(keeper.generator[12])
+    }
+
+    #[test]
+    fn a_start_must_have_its_length() {
+        assert_eq!(Keeper::make(&[0; 47]), Err(BAD_START));
+        assert_eq!(Keeper::make(&[0; 49]), Err(BAD_START));
+        let start: Vec<u8> = (0..48).collect();
+        let keeper = Keeper::make(&start).unwrap();
+        assert_eq!(keeper.generator[4], 0x0302_0100);
+        assert_eq!(keeper.generator[15], 0x2f2e_2d2c);
+    }
+
+    #[test]
+    fn p3_and_p4_in_a_timer() {
+        let mut keeper = fresh();
+        keeper.device_event(3, 0xffff_ffff, 0, 0);
+        keeper.device_event(3, 4, 0, 0);
+        assert_eq!(keeper.timers[3].d1, 5);
+        keeper.device_event(4, 0x8000_0000, 0, 0);
+        assert_eq!(keeper.timers[4].d1, -2_147_483_648);
+        assert_eq!(keeper.timers[4].d2, -2_147_483_648);
+    }
+
+    #[test]
+    fn device_one_at_1_024() {
+        let mut keeper = fresh();
+        assert_eq!(keeper.device_event(1, 1_024, 9, 9), Answer::default());
+        assert_eq!(keeper.input.count, 60);
+    }
+
+    #[test]
+    fn p7_credit_170_leaves_a_keeper_unseeded() {
+        let (keeper, answer) = after_credit(170);
+        assert_eq!((keeper.input.count, keeper.seeded), (1_020, false));
+        assert_eq!(answer.compressions, 0);
+    }
+
+    #[test]
+    fn p8_to_p10_credits_that_seed() {
+        for (bits, left, compressions) in [(171, 2, 16), (256, 0, 24), (4_096, 17_920, 32)] {
+            let (keeper, answer) = after_credit(bits);
+            assert_eq!((keeper.input.count, keeper.seeded), (left, true));
+            assert_eq!(answer, Answer::worked(compressions));
+            assert_eq!(keeper.seeding_clock, 7);
+            let touched = |words: &[u32]| words.iter().filter(|w| **w != 0).count();
+            let key_words = match bits {
+                171 => 4,
+                256 => 6,
+                _ => 8,
+            };
+            assert_eq!(touched(&keeper.generator[4..12]), key_words);
+            assert_eq!(keeper.generator[12..], [0; 4]);
+        }
+    }
+
+    #[test]
+    fn p11_a_blocking_read_after_p10() {
+        let (mut keeper, _) = after_credit(4_096);
+        let mut room = [0xee; 16];
+        let answer = keeper.blocking_read(&mut room);
+        assert_eq!((answer.number, answer.delivered), (DONE, 12));
+        assert_eq!((answer.blocks, answer.compressions), (0, 20));
+        assert_eq!((keeper.input.count, keeper.blocking.count), (16_896, 0));
+        assert_eq!(room[12..], [0xee; 4]);
+    }
+
+    #[test]
+    fn p12_blocks_of_a_generator_read() {
+        for (length, blocks) in [(32, 1), (33, 2), (64, 2), (65, 2), (97, 3)] {
+            let (mut keeper, _) = after_credit(4_096);
+            let before = keeper.clone();
+            let answer = keeper.generator_read(7, &mut vec![0; length]);
+            assert_eq!(answer.blocks, blocks, "length {length}");
+            assert_eq!(answer.compressions, 0);
+            assert_eq!(counter(&keeper) - counter(&before), blocks);
+            assert_ne!(keeper.generator[4..12], before.generator[4..12]);
+        }
+    }
+
+    #[test]
+    fn the_key_change_takes_the_words_after_the_used_ones() {
+        for (length, from) in [(1, 1), (4, 1), (5, 2), (29, 8), (32, 8)] {
+            let (mut keeper, _) = after_credit(4_096);
+            let before = keeper.clone();
+            let block = cipher::block(&before.generator);
+            let mut room = vec![0; length];
+            keeper.generator_read(7, &mut room);
+            assert_eq!(room[..], cipher::bytes(&block)[..length]);
+            for i in 0..8 {
+                let changed = before.generator[4 + i] ^ block[from + i];
+                assert_eq!(keeper.generator[4 + i], changed);
+            }
+        }
+    }
+
+    #[test]
+    fn the_counter_carries_into_word_13_and_wraps() {
+        let (mut keeper, _) = after_credit(4_096);
+        keeper.generator[12] = u32::MAX;
+        keeper.generator[13] = u32::MAX;
+        let answer = keeper.generator_read(7, &mut [0; 33]);
+        assert_eq!(answer.blocks, 2);
+        assert_eq!(keeper.generator[12..14], [1, 0]);
+    }
+
+    #[test]
+    fn a_read_reseeds_only_after_more_than_300_000_ticks() {
+        let (seeded, _) = after_credit(4_096);
+        for (now, compressions) in [
+            (7 + 300_000, 0),
+            (7 + 300_001, 32),
+            (6, 0),
+            (7 + 0x7fff_ffff, 32),
+            (7 + 0x8000_0000, 0),
+        ] {
+            let mut keeper = seeded.clone();
+            let answer = keeper.generator_read(now, &mut [0; 1]);
+            assert_eq!(answer.compressions, compressions, "now {now}");
+        }
+    }
+
+    #[test]
+    fn a_due_reseed_without_enough_input_leaves_the_seeding_clock() {
+        let (mut keeper, _) = after_credit(171);
+        let answer = keeper.generator_read(400_000, &mut [0; 4]);
+        assert_eq!((answer.delivered, answer.compressions), (4, 0));
+        assert_eq!(keeper.seeding_clock, 7);
+    }
+
+    #[test]
+    fn interrupts_spill_at_the_sixty_fourth_or_after_a_thousand_ticks() {
+        let mut keeper = fresh();
+        for _ in 0..63 {
+            keeper.interrupt(1_000, 1, 2, 3);
+        }
+        assert_eq!((keeper.tally, keeper.input.count), (63, 0));
+        keeper.interrupt(1_000, 1, 2, 3);
+        assert_eq!((keeper.tally, keeper.input.count), (0, 6));
+        assert_eq!((keeper.last_spill, keeper.input.position), (1_000, 112));
+
+        let mut keeper = fresh();
+        keeper.interrupt(1_001, 1, 2, 3);
+        assert_eq!((keeper.tally, keeper.last_spill), (0, 1_001));
+        keeper.interrupt(0, 1, 2, 3);
+        assert_eq!((keeper.tally, keeper.last_spill), (1, 1_001));
+    }
+
+    #[test]
+    fn refusals_change_nothing() {
+        let (base, _) = after_credit(100);
+        let mut keeper = base.clone();
+        let long = vec![1; LONGEST + 1];
+        let mut room = vec![9; LONGEST + 1];
+        assert_eq!(keeper.device_event(16, 1, 1, 1).number, NO_DEVICE);
+        assert_eq!(keeper.device_event(0, 1, 1, 0).number, REPEATED);
+        assert_eq!(keeper.write(&long).number, TOO_LONG);
+        assert_eq!(keeper.seed(1, &long, u32::MAX).number, TOO_LONG);
+        assert_eq!(keeper.seed(1, &[1, 2], 17).number, TOO_MUCH_CREDIT);
+        assert_eq!(keeper.generator_read(1, &mut room).number, TOO_LONG);
+        assert_eq!(keeper.generator_read(1, &mut room[..1]).number, UNSEEDED);
+        assert_eq!(keeper.blocking_read(&mut room).number, TOO_LONG);
+        keeper.input.count = 511;
+        assert_eq!(keeper.blocking_read(&mut room[..1]).number, WOULD_BLOCK);
+        keeper.input.count = base.input.count;
+        assert_eq!(keeper.generator_read(1, &mut []), Answer::default());
+        assert_eq!(keeper.blocking_read(&mut []), Answer::default());
+        assert_eq!(keeper, base);
+        assert!(room.iter().all(|b| *b == 9));
+    }
+
+    #[test]
+    fn every_call_refuses_a_record_out_of_range() {
+        type Damage = fn(&mut Keeper);
+        let ways: [Damage; 16] = [
+            |k| k.input.count = 32_769,
+            |k| k.input.position = 128,
+            |k| k.input.rotation = 32,
+            |k| k.blocking.count = 8_193,
+            |k| k.blocking.position = 32,
+            |k| k.blocking.rotation = 32,
+            |k| k.tally = 64,
+            |k| k.timers[0].d1 = D1_MOST + 1,
+            |k| k.timers[15].d1 = D1_LEAST - 1,
+            |k| k.timers[15].d2 = D2_MOST + 1,
+            |k| k.timers[0].d2 = -D2_MOST - 1,
+            |k| k.generator[0] ^= 1,
+            |k| k.generator[1] ^= 1 << 31,
+            |k| k.generator[2] = 0,
+            |k| k.generator[3] ^= 2,
+            |k| k.generator.swap(0, 1),
+        ];
+        for way in ways {
+            let (mut keeper, _) = after_credit(4_096);
+            way(&mut keeper);
+            let before = keeper.clone();
+            let mut room = [3; LONGEST + 1];
+            let answers = [
+                keeper.device_event(16, 1, 1, 1),
+                keeper.device_event(0, 1, 1, 0),
+                keeper.interrupt(1, 1, 1, 1),
+                keeper.write(&room),
+                keeper.write(&[]),
+                keeper.seed(1, &[], 1),
+                keeper.generator_read(1, &mut []),
+                keeper.generator_read(1, &mut room),
+                keeper.blocking_read(&mut room[..1]),
+                keeper.blocking_read(&mut []),
+            ];
+            for answer in answers {
+                assert_eq!(answer, Answer::refusal(OUT_OF_RANGE));
+            }
+            assert_eq!(keeper, before);
+            assert_eq!(room, [3; LONGEST + 1]);
+        }
+    }
+
+    #[test]
+    fn blocking_thresholds() {
+        let (base, _) = after_credit(4_096);
+        for (blocking, input, number) in [
+            (63, 511, WOULD_BLOCK),
+            (64, 511, DONE),
+            (63, 512, DONE),
+            (0, 512, DONE),
+            (64, 0, DONE),
+        ] {
+            for length in [1, 8, 4_096] {
+                let mut keeper = base.clone();
+                keeper.blocking.count = blocking;
+                keeper.input.count = input;
+                let answer = keeper.blocking_read(&mut vec![0; length]);
+                assert_eq!(answer.number, number);
+                assert_eq!(answer.delivered > 0, number == DONE);
+            }
+        }
+    }
+}

@@ -1,0 +1,137 @@
+//! The replay of a journal, as text.
+
+use crate::journal::{self, Record};
+use crate::keeper::{Answer, Keeper, DONE};
+
+/// Makes the call that a record stands for. Gives the answer and the bytes
+/// that were delivered.
+pub fn perform(keeper: &mut Keeper, record: &Record) -> (Answer, Vec<u8>) {
+    let mut room = match record {
+        Record::Generator { length, .. } | Record::Blocking { length, .. } => {
+            vec![0; usize::from(*length)]
+        }
+        _ => Vec::new(),
+    };
+    let answer = perform_into(keeper, record, &mut room);
+    room.truncate(answer.delivered);
+    (answer, room)
+}
+
+/// The same with the caller's own room, whose length is the read's.
+pub fn perform_into(keeper: &mut Keeper, record: &Record, room: &mut [u8]) -> Answer {
+    match record {
+        Record::Device {
+            now,
+            device,
+            stamp,
+            value,
+        } => keeper.device_event(*device, *now, *stamp, *value),
+        Record::Interrupt {
+            now,
+            number,
+            stamp,
+            address,
+        } => keeper.interrupt(*now, *number, *stamp, *address),
+        Record::Write { bytes, .. } => keeper.write(bytes),
+        Record::Seed { now, credit, bytes } => keeper.seed(*now, bytes, *credit),
+        Record::Generator { now, .. } => keeper.generator_read(*now, room),
+        Record::Blocking { .. } => keeper.blocking_read(room),
+    }
+}
+
+/// The whole transcript of a journal, its last line included.
+pub fn transcript(journal: &[u8]) -> String {
+    let mut out = String::new();
+    let ending = match replay(journal, &mut out) {
+        Ok(()) => DONE,
+        Err(number) => number,
+    };
+    out += &format!("end {ending}\n");
+    out
+}
+
+fn replay(journal: &[u8], out: &mut String) -> Result<(), u8> {
+    let (start, records) = journal::open(journal)?;
+    let mut keeper = Keeper::make(start)?;
+    for record in records {
+        let (answer, bytes) = perform(&mut keeper, &record?);
+        *out += &line(&answer, &keeper, &bytes);
+    }
+    Ok(())
+}
+
+fn line(answer: &Answer, keeper: &Keeper, bytes: &[u8]) -> String {
+    let mut line = format!(
+        "{} {} {} {} {} {}",
+        answer.number,
+        answer.delivered,
+        keeper.input.count,
+        keeper.blocking.count,
+        answer.blocks,
+        answer.compressions
+    );
+    if !bytes.is_empty() {
+        line.push(' ');
+        line += &journal::hex(bytes);
+    }
+    line.push('\n');
+    line
+}
+
+#[cfg(test)]
+mod tests {
+    use super::*;
+    use std::borrow::Cow;
+
+    fn journal(records: &[Record]) -> Vec<u8> {
+        let mut out = journal::header(&[0; 48]);
+        for record in records {
+            record.write(&mut out);
+        }
+        out
+    }
+
+    #[test]
+    fn the_two_line_transcript() {
+        let journal = journal(&[Record::Generator { now: 0, length: 4 }]);
+        assert_eq!(transcript(&journal), "2 0 0 0 0 0\nend 0\n");
+    }
+
+    #[test]
+    fn a_bad_header_gives_one_line() {
+        assert_eq!(transcript(b""), "end 8\n");
+        assert_eq!(transcript(&[b'N'; 61_441]), "end 12\n");
+    }
+
+    #[test]
+    fn p10_and_p11_as_a_transcript() {
+        let journal = journal(&[
+            Record::Seed {
+                now: 0,
+                credit: 4_096,
+                bytes: Cow::Owned(vec![1; 512]),
+            },
+            Record::Blocking { now: 0, length: 16 },
+            Record::Generator {
+                now: 0,
+                length: 4_097,
+            },
+        ]);
+        let text = transcript(&journal);
+        let lines: Vec<&str> = text.lines().collect();
+        assert_eq!(lines.len(), 4);
+        assert_eq!(lines[0], "0 0 17920 0 0 32");
+        let (numbers, hex) = lines[1].rsplit_once(' ').unwrap();
+        assert_eq!(numbers, "0 12 16896 0 0 20");
+        assert_eq!(hex.len(), 24);
+        assert_eq!(lines[2], "3 0 16896 0 0 0");
+        assert_eq!(lines[3], "end 0");
+    }
+
+    #[test]
+    fn a_record_that_ends_the_replay_has_no_line() {
+        let mut journal = journal(&[Record::Blocking { now: 0, length: 1 }]);
+        journal.push(9);
+        assert_eq!(transcript(&journal), "1 0 0 0 0 0\nend 11\n");
+    }
+}
