@@ -1,0 +1,90 @@
+// A journal run for as many records as a room has place for the lines of.
+ghost use mathlib.Core.Path.{_≡_};
+ghost use mathlib.Core.Bool.{true};
+ghost use Prim.Native.Nat.{_≤_, _<_};
+ghost use lib.ListN.{length, take};
+ghost use Rattle.steps.specs.Promise.{keeperOf};
+ghost use Rattle.nk.specs.Rest.{Laid};
+use crate::output::lay;
+use ledger::Ledger;
+use replay::take_turn;
+use transcript::LONGEST_LINE;
+
+pub const ROOM: usize = 65536;
+
+// With no more than this in the room, the longest line still fits.
+const MOST_BEFORE_A_LINE: usize = ROOM - LONGEST_LINE;
+
+// The ledger and the position after the last turn, whether there is more, and how many bytes of the room are lines.
+pub struct Batch {
+    pub ledger: Ledger,
+    pub at: usize,
+    pub more: bool,
+    pub count: usize,
+}
+
+// Takes turns until the replay ends or a further line might not fit, and lays their lines one behind another. What the room then has, and
+// after it what is still to be written from the new position on, is what was to be written from the old one on.
+pub fn fill_room(
+    j: &[u8],
+    at: usize,
+    l: Ledger,
+    clocks: &mut [u32; 16],
+    firsts: &mut [i64; 16],
+    seconds: &mut [i64; 16],
+    input: &mut [u32; 128],
+    blocking: &mut [u32; 32],
+    fast: &mut [u32; 4],
+    generator: &mut [u32; 16],
+    room: &mut [u8; 65536],
+) -> Batch
+    ensures { λ r. ⌜ Laid (now (j .entry)) at (keeperOf l (now (clocks .entry)) (now (firsts .entry)) (now (seconds .entry)) (now (input .entry)) (now (blocking .entry)) (now (fast .entry)) (now (generator .entry))) (take (r .count) (now (room .exit))) (r .more) (r .at) (keeperOf (r .ledger) (now (clocks .exit)) (now (firsts .exit)) (now (seconds .exit)) (now (input .exit)) (now (blocking .exit)) (now (fast .exit)) (now (generator .exit))) ⌝ }
+    ensures { λ r. ⌜ r .count ≤ length (now (room .exit)) ⌝ }
+    ensures { λ r. ⌜ (r .more ≡ true → (at < r .at) × (r .at ≤ length (now (j .entry)))) ⌝ }
+{
+    let mut out = [0u8; 4097];
+    let mut line = [0u8; LONGEST_LINE];
+    let mut ledger = l;
+    let mut place = at;
+    let mut count: usize = 0;
+    loop {
+        let t = take_turn(
+            j,
+            place,
+            ledger,
+            clocks,
+            firsts,
+            seconds,
+            input,
+            blocking,
+            fast,
+            generator,
+            &mut out,
+            &mut line,
+        );
+        let n = t.count;
+        let end = lay(&line, n, &mut room[..], count);
+        let next = t.at;
+        let more = t.more;
+        let after = t.ledger;
+        if !more {
+            return Batch {
+                ledger: after,
+                at: next,
+                more: false,
+                count: end,
+            };
+        }
+        if end > MOST_BEFORE_A_LINE {
+            return Batch {
+                ledger: after,
+                at: next,
+                more: true,
+                count: end,
+            };
+        }
+        ledger = after;
+        place = next;
+        count = end;
+    }
+}
