@@ -1,4 +1,4 @@
-// What the program's words ask for.
+// What the program's words ask for, and the status of having done it.
 use crate::files::MOST;
 use crate::files::load;
 use crate::messages::about;
@@ -7,65 +7,126 @@ use crate::messages::name_too_long;
 use crate::messages::no_file;
 use crate::messages::opening;
 use crate::messages::unknown_word;
+use crate::output::Sent;
 use crate::replaying::replay;
+use crate::status::FAILED;
+use crate::status::GOOD;
+use crate::status::judge;
+use crate::status::tell;
+use crate::status::worse;
 use check::same;
 
-// The journal that an argument names. Answers whether standard output takes more: a file that cannot be read keeps no other from its turn.
-fn replay_argument(i: usize) -> bool {
+// What came of a file: its status, and whether standard output takes more.
+struct Done {
+    status: u32,
+    listened: bool,
+}
+
+// Replays a journal where there is somebody to read it. Where there is not, the status is still the journal's own, so that it does not
+// depend on how soon a reader goes.
+fn replay_or_judge(j: &[u8], listened: bool) -> Done {
+    let status = judge(j);
+    if !listened {
+        return Done {
+            status: status,
+            listened: false,
+        };
+    }
+    let sent = replay(j);
+    match sent {
+        Sent::All => Done {
+            status: status,
+            listened: true,
+        },
+        Sent::NoReader => Done {
+            status: status,
+            listened: false,
+        },
+        Sent::Failed => Done {
+            status: FAILED,
+            listened: false,
+        },
+    }
+}
+
+// The journal that an argument names. A file that cannot be read keeps no other from its turn.
+fn replay_argument(i: usize, listened: bool) -> Done {
     let mut said = opening();
     let n = about(i, &mut said);
     if os::errno() != 0 {
         name_too_long();
-        return true;
+        return Done {
+            status: FAILED,
+            listened: listened,
+        };
     }
     let mut room = [0u8; MOST];
     let f = load(&said[..n], &mut room);
     if !f.whole {
-        return true;
+        return Done {
+            status: FAILED,
+            listened: listened,
+        };
     }
     let m = f.count;
-    replay(&room[..m])
+    replay_or_judge(&room[..m], listened)
 }
 
-// The journals that the arguments from the third on name, in their order.
-fn replay_all(count: usize) {
-    if count < 3 {
+// The journals that the arguments from one on name, in their order. The status is the worst of them.
+fn replay_all(first: usize, count: usize) -> u32 {
+    if count <= first {
         no_file();
-        return;
+        return FAILED;
     }
-    let mut i: usize = 2;
+    let mut status = GOOD;
+    let mut listened = true;
+    let mut i = first;
     while i < count {
-        if !replay_argument(i) {
-            return;
-        }
+        let done = replay_argument(i, listened);
+        status = worse(status, done.status);
+        listened = done.listened;
         i += 1;
     }
+    status
 }
 
-fn obey_word(word: &[u8], count: usize) {
+// A word, and the place of the first argument behind it.
+fn obey_word(word: &[u8], first: usize, count: usize) -> u32 {
     if same(word, b"replay") {
-        replay_all(count);
-        return;
+        return replay_all(first, count);
     }
     if same(word, b"--help") {
-        help();
-        return;
+        return help();
     }
     if same(word, b"-h") {
-        help();
-        return;
+        return help();
     }
     unknown_word(word);
+    FAILED
 }
 
-// A word longer than the buffer is none that is known, and is shown as none.
-pub fn obey() {
-    let count = os::arg_count();
-    if count < 2 {
-        help();
-        return;
+// The words from a place on. A word longer than the buffer is none that is known, and is shown as none.
+fn obey_from(first: usize, count: usize) -> u32 {
+    if count <= first {
+        return help();
     }
     let mut word = [0u8; 64];
+    let n = os::arg(first, &mut word);
+    obey_word(&word[..n], first + 1, count)
+}
+
+// Whether the first argument asks that the status be told. It is told to nobody who did not ask: the descriptor would be another's.
+fn status_wanted() -> bool {
+    let mut word = [0u8; 64];
     let n = os::arg(1, &mut word);
-    obey_word(&word[..n], count);
+    same(&word[..n], b"--status-on-9")
+}
+
+pub fn obey() {
+    let count = os::arg_count();
+    if status_wanted() {
+        tell(obey_from(2, count));
+        return;
+    }
+    obey_from(1, count);
 }

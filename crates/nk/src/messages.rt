@@ -2,6 +2,10 @@
 ghost use mathlib.Core.Path.{_≡_};
 ghost use Prim.Native.Nat.{_≤_};
 ghost use lib.ListN.{length};
+use crate::output::Sent;
+use crate::output::write;
+use crate::status::FAILED;
+use crate::status::GOOD;
 use libc::STDERR_FILENO;
 use libc::STDOUT_FILENO;
 
@@ -13,7 +17,8 @@ fn complain(text: &[u8]) {
     io::write_all(STDERR_FILENO, text);
 }
 
-pub fn help() {
+// What the program can do, and the status of saying it: an output that took nothing is told of at the last line.
+pub fn help() -> u32 {
     tell(b"nk: replays journals of the noise keeper\n\n");
     tell(b"    nk replay FILE..    write the transcript of each journal to standard output\n");
     tell(b"    nk --help           say this\n\n");
@@ -26,7 +31,17 @@ pub fn help() {
     tell(
         b"`end` and why the replay ended early: 3 a length over 4,096, 8 not a journal, 9 another version,\n",
     );
-    tell(b"10 cut short, 11 an unknown kind of record, 12 more than 61,440 bytes.\n");
+    tell(b"10 cut short, 11 an unknown kind of record, 12 more than 61,440 bytes.\n\n");
+    tell(
+        b"Exit status of ./nk: 0 where each journal ended with 0, 1 where one ended with another number, 2\n",
+    );
+    let sent = write(
+        b"where one could not be read, standard output not be written, or the words make no sense.\n",
+    );
+    match sent {
+        Sent::Failed => FAILED,
+        _ => GOOD,
+    }
 }
 
 pub fn no_file() {

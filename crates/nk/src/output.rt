@@ -4,15 +4,23 @@ ghost use lib.ListN.{length, take};
 ghost use Rattle.transcript.specs.Text.{Put};
 use libc::STDOUT_FILENO;
 
-// Writes bytes to standard output, and answers whether it took them. That a reader has gone is no error; anything else is told.
-pub fn write(bytes: &[u8]) -> bool {
+// What came of writing to standard output.
+pub enum Sent {
+    All,
+    NoReader,
+    Failed,
+}
+
+// Writes bytes to standard output. That a reader has gone is no error; anything else is told.
+pub fn write(bytes: &[u8]) -> Sent {
     if io::write_all(STDOUT_FILENO, bytes) {
-        return true;
+        return Sent::All;
     }
-    if os::errno() != libc::EPIPE {
-        os::fail(b"nk: standard output");
+    if os::errno() == libc::EPIPE {
+        return Sent::NoReader;
     }
-    false
+    os::fail(b"nk: standard output");
+    Sent::Failed
 }
 
 // Lays the first n bytes of a line into a room at a place, and answers the place after them.

@@ -1,6 +1,7 @@
 // A journal run from its first byte to its last, and its transcript written.
 use crate::batches::ROOM;
 use crate::batches::fill_room;
+use crate::output::Sent;
 use crate::output::write;
 use journal::header;
 use journal::payload;
@@ -26,15 +27,15 @@ fn blank_ledger() -> Ledger {
 }
 
 // The transcript of a journal that has no records to run.
-fn refuse(number: u32) -> bool {
+fn refuse(number: u32) -> Sent {
     let mut line = [0u8; 15];
     let n = ending(number, &mut line);
     write(&line[..n])
 }
 
-// Runs a journal on a keeper made of its start bytes, and writes its transcript a room at a time; answers whether standard output took it
-// all. What was written so far, and after it what is still to be written, is the journal's transcript.
-pub fn replay(j: &[u8]) -> bool {
+// Runs a journal on a keeper made of its start bytes, and writes its transcript a room at a time for as long as standard output takes it.
+// What was written so far, and after it what is still to be written, is the journal's transcript.
+pub fn replay(j: &[u8]) -> Sent {
     let refused = header(j);
     if refused != 0 {
         return refuse(refused);
@@ -75,11 +76,12 @@ pub fn replay(j: &[u8]) -> bool {
             &mut room,
         );
         let n = b.count;
-        if !write(&room[..n]) {
-            return false;
-        }
+        let sent = write(&room[..n]);
+        let Sent::All = sent else {
+            return sent;
+        };
         if !b.more {
-            return true;
+            return sent;
         }
         let next = b.ledger;
         l = next;

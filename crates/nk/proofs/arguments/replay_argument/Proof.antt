@@ -41,11 +41,11 @@ returns-2 c = search needs
 array-share-prefix-room : tie.Need-array-share-prefix-room
 array-share-prefix-room c = search needs
 
-slice-aggregate-replay : tie.Need-slice-aggregate-replay
-slice-aggregate-replay c = search needs
+slice-aggregate-replay-or-judge : tie.Need-slice-aggregate-replay-or-judge
+slice-aggregate-replay-or-judge c = search needs
 
-replay-requires : tie.Need-replay-requires
-replay-requires c κs = search needs
+replay-or-judge-requires : tie.Need-replay-or-judge-requires
+replay-or-judge-requires c κs = search needs
 
 returns-3 : tie.Need-returns-3
 returns-3 c = search needs
@@ -66,6 +66,6 @@ replay-argument-spec =
     load-requires
     returns-2
     array-share-prefix-room
-    slice-aggregate-replay
-    replay-requires
+    slice-aggregate-replay-or-judge
+    replay-or-judge-requires
     returns-3)

@@ -37,7 +37,15 @@ make-on-requires : tie.Need-make-on-requires Inv-loop μ-loop
 make-on-requires c κs = search needs
 
 loop-holds : tie.Need-loop-holds Inv-loop μ-loop
-loop-holds c = told-none _ _ _ _ _ _ (c .before .before .before .before .before .before .before .before .before .before .before .before .header .ensures) (c .before .before .before .before .before .before .before .before .before .before .before .if1 .left) (c .before .before .payload .ensures) (c .before .make-on .ensures)
+loop-holds c =
+    let c : tie.After-make-on Inv-loop μ-loop = search in
+    let made = c .make-on .ensures in
+    let c : tie.After-payload Inv-loop μ-loop = search in
+    let start = c .payload .ensures in
+    let c : tie.Else1 Inv-loop μ-loop = search in
+    let good = c .if1 .left in
+    let c : tie.After-header Inv-loop μ-loop = search in
+    told-none _ _ _ _ _ _ (c .header .ensures) good start made
 
 fill-room-requires : tie.Need-fill-room-requires Inv-loop μ-loop
 fill-room-requires c κs = search needs
@@ -51,6 +59,9 @@ slice-aggregate-write c = sym (length-take-le _ _ (c .before .fill-room .ensures
 write-requires : tie.Need-write-requires Inv-loop μ-loop
 write-requires c κs = search needs
 
+enum-told : tie.Need-enum-told Inv-loop μ-loop
+enum-told c = search needs
+
 returns-2 : tie.Need-returns-2 Inv-loop μ-loop
 returns-2 c = search needs
 
@@ -58,10 +69,13 @@ returns-3 : tie.Need-returns-3 Inv-loop μ-loop
 returns-3 c = search needs
 
 loop-less : tie.Need-loop-less Inv-loop μ-loop
-loop-less c = let h = c .before .before .before .before .before .before .fill-room .ensures .1 .1 (not-false _ (c .before .if3 .left)) in omega arith
+loop-less c = let f : tie.After-fill-room Inv-loop μ-loop = search in let h = f .fill-room .ensures .1 .1 (not-false _ (c .before .if2 .left)) in omega arith
 
 loop-again : tie.Need-loop-again Inv-loop μ-loop
-loop-again c = told-more _ _ _ _ _ _ _ (c .before .before .before .before .before .before .fill-room .ensures .0) (not-false _ (c .before .if3 .left)) (c .before .before .before .before .before .before .before .before .before .before .before .before .before .before .before .loop .inv)
+loop-again c =
+    let f : tie.After-fill-room Inv-loop μ-loop = search in
+    let at : tie.At-loop Inv-loop μ-loop = search in
+    told-more _ _ _ _ _ _ _ (f .fill-room .ensures .0) (not-false _ (c .before .if2 .left)) (at .loop .inv)
 
 pub replay-spec : {M : Type 1} → statement M
 replay-spec =
@@ -80,6 +94,7 @@ replay-spec =
     array-share-prefix-room
     slice-aggregate-write
     write-requires
+    enum-told
     returns-2
     returns-3
     loop-less
