@@ -17,10 +17,7 @@ use Rattle.chacha.proofs.Lengths.{length-serialized}
 use Rattle.ledger.specs.Choice.{pick}
 use Rattle.ledger.specs.Plans.{wholeBlocks, usedUp, oneMore, streamBlocks}
 use Rattle.keeper.specs.Generator.{xorAt, ontoKey, counted, Stream, stream, keyBytes, generated}
-
--- words 12 and 13 as one number
-abbrev pub counter : List ℕ → ℕ
-counter g = getD g 12 0 + getD g 13 0 * 2 ^ 32
+use Rattle.keeper.specs.Work.{counter}
 
 -- sixteen words; the two of the counter are words of 32 bits
 pub record Gen (g : List ℕ) : Type 0 where

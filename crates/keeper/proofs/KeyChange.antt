@@ -18,7 +18,8 @@ use Rattle.chacha.proofs.Lengths.{length-serialized}
 use Rattle.ledger.specs.Choice.{pick}
 use Rattle.ledger.specs.Plans.{wholeBlocks, usedUp, oneMore, streamBlocks}
 use Rattle.keeper.specs.Generator.{xorAt, ontoKey, counted, Stream, stream, keyBytes, generated}
-use Rattle.keeper.proofs.Counter.{counter, Gen, xor-before, key-counter, key-gen, stream-length, stream-keeps-length, stream-front, whole, unkeyed, unkeyed-holds, generated-gen, generated-counter, generated-counter-planned}
+use Rattle.keeper.specs.Work.{counter}
+use Rattle.keeper.proofs.Counter.{Gen, xor-before, key-counter, key-gen, stream-length, stream-keeps-length, stream-front, whole, unkeyed, unkeyed-holds, generated-gen, generated-counter, generated-counter-planned}
 
 -- ---- the counter is not started again
 -- two reads in a row move it by the blocks of both

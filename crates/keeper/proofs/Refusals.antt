@@ -4,18 +4,23 @@ use mathlib.Core.Path.{_≡_, refl}
 use mathlib.Core.List.{List, []}
 use Prim.Native.Nat.{ℕ, _≤_}
 use native.Mathlib.Omega.{arith}
-use lib.ListN.{length, drop, length-append, length-drop}
+use lib.ListN.{length, drop, length-append, length-drop, length-take}
 use borrow.Author.Tests.{eq-eqb, ne-eqb}
 use Rattle.ledger.specs.Choice.{pick}
-use Rattle.ledger.proofs.Still.{asked, delivered-fits}
+use Rattle.ledger.specs.Shapes.{blockingShape}
+use Rattle.ledger.specs.PublicCalls.{asked}
+use Rattle.ledger.specs.Machine.{planned, planAt, stepView}
+use Rattle.ledger.proofs.Still.{delivered-fits}
 use Rattle.ledger.proofs.Picks.{pick-both}
-use Rattle.keeper.specs.Record.{Outcome, refused, fresh, view, roomAfter, made}
+use Rattle.pool.specs.Mixing.{mix}
+use Rattle.pool.proofs.Extracted.{extract-length}
+use Rattle.keeper.specs.Generator.{generated}
+use Rattle.keeper.specs.Record.{Outcome, refused, fresh, view, blockingPool, roomAfter, made}
 use Rattle.keeper.specs.Calls.{Call, public, deviceEvent, interrupted, written, seededWith, generatorRead, blockingReadOf}
 use Rattle.keeper.specs.Narrative.{eventCall, interruptCall, writeCall, seedCall, generate, readCall, deliver, blockingCall, act, told}
-use Rattle.keeper.specs.Obey.{obey, step}
+use Rattle.keeper.specs.Obey.{forTransfer, obey, step}
 use Rattle.keeper.specs.declared.Keeper.{Keeper}
 use Rattle.keeper.proofs.Same.{same}
-use Rattle.keeper.proofs.Shadow.{Whole, delivered-is}
 
 -- an outcome that is a refusal wherever its number is not 0
 abbrev pub Refuses : Keeper → Outcome → Type 0
@@ -63,9 +68,13 @@ pub delivered : (k : Keeper) (c : Call) → (told k c) .answer .delivered ≡ le
 unfolding step obey
 delivered k c = rw (same k c)
 
-pub room-length : (k : Keeper) (c : Call) (room : List ℕ) → Whole k → asked (public c) ≤ length room → length (roomAfter room ((told k c) .bytes)) ≡ length room
-room-length k c room w h =
-    let bs = (told k c) .bytes in
-    let f = (delivered-fits (view k) (public c)) .0 in
-    let d = delivered-is k c w in
-    simp (length-append, length-drop) (omega (arith, f, d, delivered k c))
+-- never more than was asked for
+pub handed-fits : (k : Keeper) (c : Call) → length ((told k c) .bytes) ≤ asked (public c)
+unfolding step obey generated stepView planned
+handed-fits k c =
+    let p = planAt (view k) (public c) in
+    let d = extract-length blockingShape (p .deliver) (mix blockingShape (blockingPool k) ((forTransfer c p k) .bytes)) in
+    rw (same k c) (simp (length-append, length-take) (omega (arith, d, (delivered-fits (view k) (public c)) .0)))
+
+pub room-length : (k : Keeper) (c : Call) (room : List ℕ) → asked (public c) ≤ length room → length (roomAfter room ((told k c) .bytes)) ≡ length room
+room-length k c room h = let f = handed-fits k c in simp (length-append, length-drop) (omega arith)

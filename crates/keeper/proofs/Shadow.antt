@@ -116,8 +116,10 @@ stays-whole k c w = rw (same k c) (record { fast = fast-whole _ c (k .fast) (w .
 pub view-is : (k : Keeper) (c : Call) → Whole k → view ((told k c) .keeper) ≡ (stepView (view k) (public c)) .view
 view-is k c w = ap (λ (s : Shown). s .view) (shadow k c w)
 
-pub number-is : (k : Keeper) (c : Call) → Whole k → (told k c) .answer .number ≡ (stepView (view k) (public c)) .number
-number-is k c w = ap (λ (s : Shown). s .number) (shadow k c w)
+-- the number does not ask for the lengths
+pub number-is : (k : Keeper) (c : Call) → (told k c) .answer .number ≡ (stepView (view k) (public c)) .number
+unfolding step obey stepView planned
+number-is k c = ap (λ (o : Outcome). o .answer .number) (same k c)
 
 pub delivered-is : (k : Keeper) (c : Call) → Whole k → (told k c) .answer .delivered ≡ (stepView (view k) (public c)) .delivered
 delivered-is k c w = ap (λ (s : Shown). s .delivered) (shadow k c w)

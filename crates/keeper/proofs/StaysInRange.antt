@@ -34,11 +34,11 @@ after-fine k [] w f = (w, f)
 after-fine k (c ∷ cs) w f = after-fine ((told k c) .keeper) cs (stays-whole k c w) (call-fine k c w f)
 
 -- a call on a keeper in range is answered with 7 at most
-pub low : (k : Keeper) (c : Call) → Whole k → Fine (view k) → (told k c) .answer .number ≤ 7
-low k c w f = rw (number-is k c w) (fine-low (view k) (public c) f)
+pub low : (k : Keeper) (c : Call) → Fine (view k) → (told k c) .answer .number ≤ 7
+low k c f = rw (number-is k c) (fine-low (view k) (public c) f)
 
 -- NO 17 after any calls from a fresh keeper
 pub never-17 : (start : List ℕ) → length start ≡ 48 → (cs : List Call) (c : Call) → (told (keeperAfter (fresh start) cs) c) .answer .number ≡ 17 → ⊥
 never-17 start h cs c e =
     let a = after-fine (fresh start) cs (fresh-whole start h) fresh-fine in
-    omega (arith, low (keeperAfter (fresh start) cs) c (a .0) (a .1))
+    omega (arith, low (keeperAfter (fresh start) cs) c (a .1))

@@ -1,9 +1,8 @@
--- Work is real. The ChaCha20 count of a call is how far words 12 and 13 moved as one 64-bit counter, modulo 2^64; its compressions are 8 for
--- each 20 bytes by which extraction moved the input pool and 2 for each 20 bytes by which it moved the blocking pool. So no fixed and
--- no invented count can be reported. Assumes nothing.
+-- Work is real: of every call of every run from 48 start bytes, the ChaCha20 count is how far the counter moved, and the compressions are
+-- those of the blocks by which extraction moved the two pools.
 use mathlib.Core.Path.{_≡_, refl, sym, ap, ap₂, _∙_}
 use mathlib.Core.Bool.{Bool, true, false, _&&_, not}
-use mathlib.Core.List.{List, []}
+use mathlib.Core.List.{List, [], _∷_}
 use Prim.Native.Nat.{ℕ, zero, suc, _+_, _*_, _%_, _^_, _<_, _≤_}
 use native.Mathlib.Omega.{arith}
 use native.Mathlib.Nat.{zero-add, suc-add}
@@ -31,10 +30,11 @@ use Rattle.keeper.specs.Record.{inputPool, fresh, view, Outcome}
 use Rattle.keeper.specs.Calls.{Call, public, stirredBy, payload}
 use Rattle.keeper.specs.Narrative.{told}
 use Rattle.keeper.specs.Obey.{obey, step}
+use Rattle.keeper.specs.Work.{counter, inputBlocks, blockingBlocks, Worked, AllWorked, StartBytes}
 use Rattle.keeper.specs.declared.Keeper.{Keeper}
-use Rattle.keeper.proofs.Counter.{counter, Gen, key-counter, key-gen, generated-counter, generated-gen}
+use Rattle.keeper.proofs.Counter.{Gen, key-counter, key-gen, generated-counter, generated-gen}
 use Rattle.keeper.proofs.Same.{same}
-use Rattle.keeper.proofs.Shadow.{Whole, shadow, view-is}
+use Rattle.keeper.proofs.Shadow.{Whole, shadow, view-is, stays-whole}
 use Rattle.keeper.proofs.Blind.{fresh-whole}
 
 -- ---- a plan takes at most 32 bytes onto the key
@@ -91,18 +91,18 @@ pub stays-gen : (k : Keeper) (c : Call) → Gen (k .generator) → Gen ((told k 
 unfolding step
 stays-gen k c g = rw (same k c) (obey-gen c (planAt (view k) (public c)) k (plan-few (view k) (public c)) g)
 
--- THE CHACHA20 COUNT of every call: how far words 12 and 13 moved as one counter
-pub blocks-real : (k : Keeper) (c : Call) → Gen (k .generator) → counter ((told k c) .keeper .generator) ≡ (counter (k .generator) + (told k c) .answer .blocks) % 2 ^ 64
+-- the counter moves by the blocks that are reported
+blocks-real : (k : Keeper) (c : Call) → Gen (k .generator) → counter ((told k c) .keeper .generator) ≡ (counter (k .generator) + (told k c) .answer .blocks) % 2 ^ 64
 unfolding step
 blocks-real k c g = rw (same k c) (obey-counter c (planAt (view k) (public c)) k (plan-few (view k) (public c)) g)
 
 -- a fresh keeper's generator is in order
-pub fresh-gen : (start : List ℕ) → length start ≡ 48 → ((i : ℕ) → getD start i 0 < 2 ^ 8) → Gen ((fresh start) .generator)
-fresh-gen start h b =
+pub fresh-gen : (start : List ℕ) → StartBytes start → Gen ((fresh start) .generator)
+fresh-gen start b =
     record {
-      long = (fresh-whole start h) .generator;
-      low = bytesWords-lt start b 8;
-      high = bytesWords-lt start b 9;
+      long = (fresh-whole start (b .long)) .generator;
+      low = bytesWords-lt start (b .each) 8;
+      high = bytesWords-lt start (b .each) 9;
     }
 
 -- ---- the pools' compressions
@@ -111,22 +111,24 @@ unfolding movedBlocks
 blocks-add sh zero b s = ap (λ (n : ℕ). movedBlocks sh n s) (sym (zero-add b))
 blocks-add sh (suc a) b s = blocks-add sh a b (moved sh 20 s) ∙ ap (λ (n : ℕ). movedBlocks sh n s) (sym (suc-add a b))
 
--- how far each pool moved, and what was counted for it: `fed` bytes went into the input pool and `passed` into the blocking pool;
--- extraction then moved them by 20 bytes for each of its blocks, `i` and `b` of them
-pub record Moved (k : Keeper) (o : Outcome) (fed passed i b : ℕ) : Type 0 where
-  pub input : inputSpot (o .keeper .ledger) ≡ movedBlocks inputShape i (moved inputShape fed (inputSpot (k .ledger)))
-  pub blocking : blockingSpot (o .keeper .ledger) ≡ movedBlocks blockingShape b (moved blockingShape passed (blockingSpot (k .ledger)))
-  pub compressions : o .answer .compressions ≡ 8 * i + 2 * b
-
--- THE COMPRESSIONS of every call: the blocks are those of the bytes taken for a reseed, brought over and delivered
-pub compressions-real : (k : Keeper) (c : Call) → Whole k
-    → let p = planAt (view k) (public c) in
-    Moved k (told k c) (pick (p .feeds) (brings (public c)) 0) (p .transfer) (blocksOf (p .reseed) + blocksOf (p .transfer)) (blocksOf (p .deliver))
+-- ---- one call, on a keeper whose lists have their lengths and whose counter is one of two words
+worked : (k : Keeper) (c : Call) → Whole k → Gen (k .generator) → Worked k (public c) ((told k c) .keeper) ((told k c) .answer)
 unfolding stepView planned inputMoved blockingMoved
-compressions-real k c w =
+worked k c w g =
     let p = planAt (view k) (public c) in
     record {
+      blocks = blocks-real k c g;
       input = ap (λ (u : View). inputSpot (u .ledger)) (view-is k c w) ∙ blocks-add inputShape (blocksOf (p .reseed)) (blocksOf (p .transfer)) _;
       blocking = ap (λ (u : View). blockingSpot (u .ledger)) (view-is k c w);
       compressions = ap (λ (s : Shown). s .compressions) (shadow k c w) ∙ omega arith;
     }
+
+-- ---- any calls
+all-worked : (k : Keeper) (cs : List Call) → Whole k → Gen (k .generator) → AllWorked k cs
+unfolding AllWorked
+all-worked k [] w g = tt
+all-worked k (c ∷ cs) w g = (worked k c w g, all-worked ((told k c) .keeper) cs (stays-whole k c w) (stays-gen k c g))
+
+-- WORK of every run
+pub work-real : (start : List ℕ) → StartBytes start → (cs : List Call) → AllWorked (fresh start) cs
+work-real start b cs = all-worked (fresh start) cs (fresh-whole start (b .long)) (fresh-gen start b)

@@ -5,3 +5,4 @@ pub mod Calls
 pub mod Narrative
 pub mod Obey
 pub mod Demands
+pub mod Work

@@ -10,7 +10,7 @@ use lib.Dec.{ltb}
 use borrow.Author.Tests.{lt-ltb, le-ltb, ltb-true, ltb-false, ne-eqb}
 use Rattle.ledger.specs.Choice.{pick}
 use Rattle.ledger.specs.Credits.{turnAdds, credited, taken}
-use Rattle.ledger.specs.Marks.{inputCount, blockingCount, blocks}
+use Rattle.ledger.specs.Marks.{inputCount, blockingCount, blocks, Low}
 use Rattle.ledger.specs.PublicCalls.{blockingRead}
 use Rattle.ledger.specs.Plans.{transferred, refilled, planBlockingRead, planCall, decide}
 use Rattle.ledger.specs.Machine.{View, planned, stepView}
@@ -19,10 +19,6 @@ use Rattle.ledger.specs.declared.Timer.{Timer}
 use Rattle.ledger.proofs.Picks.{and-left, and-right, both}
 use Rattle.ledger.proofs.Crediting.{further-grows, credited-grows}
 use Rattle.ledger.proofs.InRange.{Fine, fine-in-range, plan-at-is}
-
--- both thresholds are missed
-abbrev pub Low : Ledger → Type 0
-Low l = (blockingCount l < 64) × (inputCount l < 512)
 
 -- the bytes that the rule hands out, before any refusal
 abbrev pub handed : ℕ → Ledger → ℕ

@@ -9,7 +9,7 @@ use borrow.Author.Tests.{ltb-false}
 use Rattle.ledger.specs.Choice.{pick}
 use Rattle.ledger.specs.Places.{moved, movedBlocks}
 use Rattle.ledger.specs.Range.{restInRange}
-use Rattle.ledger.specs.PublicCalls.{PublicCall, event, interrupt, write, seed, read, blockingRead, deviceOf}
+use Rattle.ledger.specs.PublicCalls.{PublicCall, event, interrupt, write, seed, read, blockingRead, asked, deviceOf}
 use Rattle.ledger.specs.Plans.{rest, feed, transferred, refilled, planEvent, planInterrupt, planWrite, planSeed, planRead, planBlockingRead, planCall, decide}
 use Rattle.ledger.specs.Machine.{View, Shown, timerOf, inputMoved, blockingMoved, planned, planAt, stepView}
 use Rattle.ledger.specs.declared.Ledger.{Ledger}
@@ -58,23 +58,14 @@ refused v c h = go (decide-still (restInRange (v .firsts) (v .seconds) (v .fixed
     go (rests e) = rw e (rest-unmoved _ c v)
 
 -- ---- what is delivered
--- the bytes that a call asks for
-abbrev pub asked : PublicCall → ℕ
-asked (event device now value) = 0
-asked (interrupt now number) = 0
-asked (write len) = 0
-asked (seed now len credit) = 0
-asked (read now len) = len
-asked (blockingRead len) = len
-
 -- a plan that hands out n bytes at most, and 4,096 at most
 record AtMost (n : ℕ) (p : Plan) : Type 0 where
-  asked : p .deliver + p .stream ≤ n
+  wanted : p .deliver + p .stream ≤ n
   limit : p .deliver + p .stream ≤ 4096
 
 -- nothing done hands out nothing
 none : (n k : ℕ) (l : Ledger) → AtMost n (rest k l)
-none n k l = record { asked = omega arith; limit = omega arith }
+none n k l = record { wanted = omega arith; limit = omega arith }
 
 -- a generator read
 read-asked : (now len : ℕ) (l : Ledger) → AtMost len (planRead now len l)
@@ -82,7 +73,7 @@ unfolding planRead
 read-asked now len l =
     let P = AtMost len in
     pick-by P (ltb 4096 len) (λ h. none len 3 l) (λ h. let e = ltb-false 4096 len h in
-    pick-both P _ (none len 0 l) (pick-both P _ (none len 2 l) (record { asked = omega arith; limit = omega arith })))
+    pick-both P _ (none len 0 l) (pick-both P _ (none len 2 l) (record { wanted = omega arith; limit = omega arith })))
 
 -- a blocking read
 blocking-asked : (n : ℕ) (l : Ledger) → AtMost n (planBlockingRead n l)
@@ -91,15 +82,15 @@ blocking-asked n l =
     let P = AtMost n in
     let w = taken-wanted n 0 (refilled (transferred n l) l) in
     pick-by P (ltb 4096 n) (λ h. none n 3 l) (λ h. let e = ltb-false 4096 n h in
-    pick-both P _ (none n 0 l) (pick-both P _ (none n 1 l) (record { asked = omega (arith, w); limit = omega (arith, w) })))
+    pick-both P _ (none n 0 l) (pick-both P _ (none n 1 l) (record { wanted = omega (arith, w); limit = omega (arith, w) })))
 
 -- each call
 plan-asked : (l : Ledger) (t : Timer) (c : PublicCall) → AtMost (asked c) (planCall l t c)
 unfolding planCall planEvent planInterrupt planWrite planSeed feed
-plan-asked l t (event device now value) = pick-both (AtMost 0) _ (none 0 4 l) (pick-both (AtMost 0) _ (none 0 7 l) (record { asked = omega arith; limit = omega arith }))
-plan-asked l t (interrupt now number) = pick-both (AtMost 0) _ (record { asked = omega arith; limit = omega arith }) (record { asked = omega arith; limit = omega arith })
-plan-asked l t (write len) = pick-both (AtMost 0) _ (none 0 3 l) (record { asked = omega arith; limit = omega arith })
-plan-asked l t (seed now len credit) = pick-both (AtMost 0) _ (none 0 3 l) (pick-both (AtMost 0) _ (none 0 5 l) (record { asked = omega arith; limit = omega arith }))
+plan-asked l t (event device now value) = pick-both (AtMost 0) _ (none 0 4 l) (pick-both (AtMost 0) _ (none 0 7 l) (record { wanted = omega arith; limit = omega arith }))
+plan-asked l t (interrupt now number) = pick-both (AtMost 0) _ (record { wanted = omega arith; limit = omega arith }) (record { wanted = omega arith; limit = omega arith })
+plan-asked l t (write len) = pick-both (AtMost 0) _ (none 0 3 l) (record { wanted = omega arith; limit = omega arith })
+plan-asked l t (seed now len credit) = pick-both (AtMost 0) _ (none 0 3 l) (pick-both (AtMost 0) _ (none 0 5 l) (record { wanted = omega arith; limit = omega arith }))
 plan-asked l t (read now len) = read-asked now len l
 plan-asked l t (blockingRead len) = blocking-asked len l
 
@@ -108,7 +99,7 @@ pub delivered-fits : (v : View) (c : PublicCall) → ((stepView v c) .delivered 
 unfolding stepView planned decide
 delivered-fits v c =
     let b = pick-both (AtMost (asked c)) _ (plan-asked (v .ledger) (timerOf (v .clocks) (v .firsts) (v .seconds) (deviceOf c)) c) (none (asked c) 17 (v .ledger)) in
-    (b .asked, b .limit)
+    (b .wanted, b .limit)
 
 -- ---- seeded for good
 -- a plan that leaves the ledger seeded

@@ -1,6 +1,6 @@
 -- The ledger's fields by the paper's names, and what a call makes of them.
 use mathlib.Core.Bool.{Bool, true, false, _&&_, not}
-use Prim.Native.Nat.{ℕ, _+_}
+use Prim.Native.Nat.{ℕ, _+_, _<_}
 use lib.Dec.{ltb, eqb}
 use Rattle.ledger.specs.Choice.{pick}
 use Rattle.ledger.specs.Clocks.{clockDiff, exceeds}
@@ -160,6 +160,9 @@ stays now l = ltb (l .tally + 1) 64 && not (exceeds (clockDiff now (lastSpill l)
 abbrev pub reseedDue : ℕ → Ledger → Bool
 reseedDue now l = exceeds (clockDiff now (seedingClock l)) 300000
 
--- the blocking count is below 64 and the input count below 512
+-- the blocking count is below 64 and the input count below 512: as a test, and as two facts
 abbrev pub blocks : Ledger → Bool
 blocks l = ltb (blockingCount l) 64 && ltb (inputCount l) 512
+
+abbrev pub Low : Ledger → Type 0
+Low l = (blockingCount l < 64) × (inputCount l < 512)

@@ -24,6 +24,15 @@ brings (seed now len credit) = len
 brings (read now len) = 0
 brings (blockingRead len) = 0
 
+-- bytes that a call asks for: the length of its output room
+abbrev pub asked : PublicCall → ℕ
+asked (event device now value) = 0
+asked (interrupt now number) = 0
+asked (write len) = 0
+asked (seed now len credit) = 0
+asked (read now len) = len
+asked (blockingRead len) = len
+
 -- the device whose timer a call may keep
 abbrev pub deviceOf : PublicCall → ℕ
 deviceOf (event device now value) = device

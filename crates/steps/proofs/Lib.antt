@@ -5,3 +5,4 @@ pub mod Strokes
 pub mod FixedAnswers
 pub mod ExactlyTold
 pub mod PublicAlone
+pub mod WorkReal

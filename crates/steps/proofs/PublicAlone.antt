@@ -1,5 +1,6 @@
--- Demand 3 of the code: two runs of calls from two fresh keepers, of the same kinds and with the same public fields, leave the same ledger, timers
--- and answers after each call, whatever the start bytes, stamps, addresses, fed bytes and rooms are. Assumes nothing.
+-- Demand 3 of the code: two records that held anything, made keepers from any start bytes, and then two runs of calls of the same kinds with the
+-- same public fields: the makings and every call after them leave the same ledger, timers and answers, whatever the start bytes, stamps,
+-- addresses, fed bytes and rooms are.
 use mathlib.Core.Path.{_≡_, refl, sym, ap, _∙_}
 use mathlib.Core.List.{List, [], _∷_, map}
 use Prim.Native.Nat.{ℕ}
@@ -12,7 +13,8 @@ use Rattle.keeper.specs.declared.Keeper.{Keeper}
 use Rattle.keeper.specs.declared.Answer.{Answer}
 use Rattle.keeper.proofs.Blind.{demand-3}
 use Rattle.steps.specs.Promise.{Left, leaves}
-use Rattle.steps.specs.Runs.{Ran, ended, next, LeftAlike, nothing, further, bare}
+use Rattle.steps.specs.Runs.{Ran, ended, next, MadeAndRan, LeftAlike, nothing, further, bare}
+use Rattle.steps.proofs.FixedAnswers.{makes}
 
 -- outcomes, as far as what a run left tells them
 data Shows : List Outcome → List Left → Type 0 where
@@ -42,7 +44,20 @@ left-alike (o ∷ os) (p ∷ ps) (x ∷ xs) (y ∷ ys) (tells ek ea s) (tells fk
     (left-alike os ps xs ys s t r)
 
 -- DEMAND 3
-pub public-alone : (start start′ : List ℕ) → length start ≡ 48 → length start′ ≡ 48 → (cs cs′ : List Call) (xs ys : List Left)
-    → map public cs ≡ map public cs′ → Ran (fresh start) cs xs → Ran (fresh start′) cs′ ys → LeftAlike xs ys
-public-alone start start′ h h′ cs cs′ xs ys e r r′ =
-    left-alike _ _ xs ys (shows (fresh start) (fresh start) cs xs refl r) (shows (fresh start′) (fresh start′) cs′ ys refl r′) (demand-3 start start′ h h′ cs cs′ e)
+pub public-alone : (k k′ : Keeper) (start start′ : List ℕ) → length start ≡ 48 → length start′ ≡ 48 → (m m′ : Left) (cs cs′ : List Call) (xs ys : List Left)
+    → map public cs ≡ map public cs′ → MadeAndRan k start m cs xs → MadeAndRan k′ start′ m′ cs′ ys → LeftAlike (m ∷ xs) (m′ ∷ ys)
+public-alone k k′ start start′ h h′ m m′ cs cs′ xs ys e r r′ =
+    let f = makes k start m (r .made) h in
+    let f′ = makes k′ start′ m′ (r′ .made) h′ in
+    further
+    (record {
+      ledger = ap (λ (x : Left). x .keeper .ledger) f ∙ sym (ap (λ (x : Left). x .keeper .ledger) f′);
+      clocks = ap (λ (x : Left). x .keeper .clocks) f ∙ sym (ap (λ (x : Left). x .keeper .clocks) f′);
+      firsts = ap (λ (x : Left). x .keeper .firsts) f ∙ sym (ap (λ (x : Left). x .keeper .firsts) f′);
+      seconds = ap (λ (x : Left). x .keeper .seconds) f ∙ sym (ap (λ (x : Left). x .keeper .seconds) f′);
+      answer = ap (λ (x : Left). x .answer) f ∙ sym (ap (λ (x : Left). x .answer) f′);
+    })
+    (left-alike _ _ xs ys
+    (shows (m .keeper) (fresh start) cs xs (ap (λ (x : Left). x .keeper) f) (r .ran))
+    (shows (m′ .keeper) (fresh start′) cs′ ys (ap (λ (x : Left). x .keeper) f′) (r′ .ran))
+    (demand-3 start start′ h h′ cs cs′ e))

@@ -1,5 +1,7 @@
 -- What a call leaves in the terminal's hands, and what the paper says that it leaves.
-use mathlib.Core.List.{List, []}
+use mathlib.Core.Path.{_≡_}
+use mathlib.Core.List.{List, [], _++_}
+use lib.ListN.{drop}
 use Prim.Native.Nat.{ℕ, _+_, _≤_}
 use lib.IntN.{ℤ}
 use Rattle.ledger.specs.Plans.{blocksRun, compressionsRun}
@@ -32,6 +34,12 @@ over room o = left (o .keeper) (o .answer) (roomAfter room (o .bytes))
 -- what a call leaves, told as the paper tells it
 unfoldable pub leaves : Keeper → Call → List ℕ → Left
 leaves k c room = over room (told k c)
+
+-- what a call leaves, part by part
+pub record Told (k : Keeper) (c : Call) (room : List ℕ) (x : Left) : Type 0 where
+  pub keeper : x .keeper ≡ (told k c) .keeper
+  pub answer : x .answer ≡ (told k c) .answer
+  pub room-holds : x .room ≡ (told k c) .bytes ++ drop (x .answer .delivered) room
 
 -- what the making of a keeper leaves
 unfoldable pub leavesMade : Keeper → List ℕ → Left
