@@ -104,6 +104,8 @@ table =
     ∷ (differences (clockDiff 4 0xFFFFFFFF ∷ clockDiff 0x80000000 0 ∷ []), differences (pos 5 ∷ negsuc 2147483647 ∷ []))
     -- P5, P6: one bit onto 0 and onto 32,762
     ∷ (numbers (credited 32768 1 0 ∷ credited 32768 1 32762 ∷ []), numbers (6 ∷ 32762 ∷ []))
+    -- near the top a turn adds little, and turns go on as long as the count is below 32,766: 8,192 bits onto 32,760
+    ∷ (numbers (credited 32768 8192 32760 ∷ []), numbers (32766 ∷ []))
     -- P7: 170 bits
     ∷ (fresh (bits 170 ∷ []), lines ((0, 0, 1020, 0, 0, 0, false) ∷ []))
     -- P8: 171 bits; 16 bytes are taken
@@ -146,6 +148,9 @@ table =
     -- it comes after an event's and an interrupt's credit too
     ∷ (from (counts 1019 0) (interrupt 1001 7 ∷ []), lines ((0, 0, 0, 0, 0, 16, true) ∷ []))
     ∷ (from (counts 1019 0) (event 3 2 0 ∷ []), lines ((0, 0, 0, 0, 0, 16, true) ∷ []))
+    -- .. and its clock is that call's: after each, with credit enough, a reseed is due past 300,000 ticks and not at them
+    ∷ (from (counts 1019 0) (interrupt 1001 7 ∷ bits 4096 ∷ read 301001 1 ∷ read 301002 1 ∷ []), lines ((0, 0, 0, 0, 0, 16, true) ∷ (0, 0, 19968, 0, 0, 0, true) ∷ (0, 1, 19968, 0, 1, 0, true) ∷ (0, 1, 17920, 0, 1, 32, true) ∷ []))
+    ∷ (from (counts 1019 0) (event 3 2 0 ∷ bits 4096 ∷ read 300002 1 ∷ read 300003 1 ∷ []), lines ((0, 0, 0, 0, 0, 16, true) ∷ (0, 0, 19968, 0, 0, 0, true) ∷ (0, 1, 19968, 0, 1, 0, true) ∷ (0, 1, 17920, 0, 1, 32, true) ∷ []))
     -- an unseeded count above 1,024 waits for a credit above 0: a write, a seed of 0 bits, a credit of 1
     ∷ (from (counts 2000 0) (write 64 ∷ bits 0 ∷ event 3 1 0 ∷ bits 1 ∷ []), lines ((0, 0, 2000, 0, 0, 0, false) ∷ (0, 0, 2000, 0, 0, 0, false) ∷ (0, 0, 2000, 0, 0, 0, false) ∷ (0, 0, 21, 0, 0, 32, true) ∷ []))
     -- blocking reads at the thresholds: 63 and 511 are refused; 512 of input or 64 of blocking give a byte or more
@@ -177,6 +182,8 @@ table =
     ∷ (each freshView (event 16 5 0 ∷ event 15 5 0 ∷ seed 0 1 9 ∷ seed 0 1 8 ∷ seed 0 0 1 ∷ []), numbers (4 ∷ 0 ∷ 5 ∷ 0 ∷ 5 ∷ []))
     -- number 7: on device 0 alone, where fresh keeps 0; the last value that was kept counts
     ∷ (fresh (event 0 5 0 ∷ event 1 0 0 ∷ event 0 0 9 ∷ event 0 1 9 ∷ event 0 0 0 ∷ []), lines ((7, 0, 0, 0, 0, 0, false) ∷ (0, 0, 0, 0, 0, 0, false) ∷ (0, 0, 0, 0, 0, 0, false) ∷ (7, 0, 0, 0, 0, 0, false) ∷ (0, 0, 0, 0, 0, 0, false) ∷ []))
+    -- .. and the value of another device does not
+    ∷ (fresh (event 1 0 9 ∷ event 0 0 9 ∷ event 0 0 9 ∷ []), lines ((0, 0, 0, 0, 0, 0, false) ∷ (0, 0, 0, 0, 0, 0, false) ∷ (7, 0, 0, 0, 0, 0, false) ∷ []))
     -- number 17 is tested first in every call
     ∷ (each (counts 32769 0) (event 16 0 0 ∷ event 0 0 0 ∷ interrupt 0 0 ∷ write 4097 ∷ seed 0 1 9 ∷ read 0 0 ∷ read 0 1 ∷ blockingRead 0 ∷ blockingRead 1 ∷ []), numbers (17 ∷ 17 ∷ 17 ∷ 17 ∷ 17 ∷ 17 ∷ 17 ∷ 17 ∷ 17 ∷ []))
     -- in range: every limit at once, d1 and d2 at both ends

@@ -19,7 +19,7 @@ use Rattle.pool.specs.Mixing.{twisted, tapped, mixedWords, mix}
 use Rattle.pool.specs.Extracting.{hashed, poolHash, folded, extractBlocks}
 use Rattle.keeper.specs.FastPool.{stirred}
 use Rattle.keeper.specs.Generator.{xorAt, counted, stream, generated}
-use Rattle.keeper.specs.Record.{fresh, withLedger, withInput, withBlocking, withGenerator, Outcome}
+use Rattle.keeper.specs.Record.{fresh, withLedger, withInput, withBlocking, withFast, withGenerator, Outcome}
 use Rattle.keeper.specs.Calls.{Call, deviceEvent, interrupted, written, seededWith, generatorRead, blockingReadOf}
 use Rattle.keeper.specs.Narrative.{reseed, creditInput, eventCall, interruptCall, writeCall, seedCall, generate, readCall, transfer, deliver, blockingCall, act, told}
 use Rattle.keeper.specs.declared.Keeper.{Keeper}
@@ -49,6 +49,18 @@ pub interrupt-computes :
 unfolding told inRange restInRange ledgerInRange act interruptCall stirred signed rotl pick
 interrupt-computes = refl
 
+-- an interrupt past 1,000 ticks on a fast pool that holds something: it stirs, spills its 16 bytes, and earns a bit
+abbrev spill : Outcome
+spill = told (withFast (1 ∷ 2 ∷ 3 ∷ 4 ∷ []) zero48) (interrupted 1001 9 0x0123456789abcdef 0xfedcba9876543210)
+
+pub spill-computes :
+    (line8 spill) ∷ (spill .keeper .fast) ∷ (spill .keeper .ledger .tally ∷ spill .keeper .ledger .«last_spill» ∷ []) ∷ (drop 112 (spill .keeper .input)) ∷ []
+    ≡ (0 ∷ 0 ∷ 0 ∷ 0 ∷ 6 ∷ 0 ∷ 112 ∷ 16 ∷ []) ∷ (0x5cb2b802 ∷ 0xdb3cc1d8 ∷ 0xab1527e4 ∷ 0x7e3a3cf6 ∷ []) ∷ (0 ∷ 1001 ∷ [])
+    ∷ (0x9ac4a3f3 ∷ 0x0d03f61e ∷ 0x681fb018 ∷ 0x161f8c43 ∷ 0xbf9c6218 ∷ 0xfca16307 ∷ 0x88cf047c ∷ 0x1d5e3675
+    ∷ 0x0ef1b3a8 ∷ 0x763b9d40 ∷ 0x073e1682 ∷ 0x39f0b218 ∷ 0x94f4968c ∷ 0x7702a1e6 ∷ 0x0edb83b2 ∷ 0x76dc4190 ∷ []) ∷ []
+unfolding told inRange restInRange ledgerInRange act interruptCall stirred creditInput credited further mix mixedWords tapped twisted rotl wordsBytes leBytes signed pick
+spill-computes = refl
+
 -- a write of three bytes
 pub write-computes :
     (line8 (told zero48 (written (1 ∷ 2 ∷ 255 ∷ [])))) ∷ (drop 125 ((told zero48 (written (1 ∷ 2 ∷ 255 ∷ []))) .keeper .input)) ∷ []
@@ -73,6 +85,16 @@ pub seeding-computes :
 unfolding told inRange restInRange ledgerInRange act seedCall creditInput reseed taken credited further extractBlocks poolHash hashed folded compressed initialHash run step schedule nextWord constant Sha1·mix ch parity maj swapped leNumber leBytes wordsBytes bytesWords xorAt mix mixedWords tapped twisted rotl zipWith pick
 seeding-computes = refl
 
+-- a seed of 24 bytes with 192 bits: 18 bytes taken, of which the last two go onto the low half of the key's fifth word
+abbrev seeding18 : Outcome
+seeding18 = told zero48 (seededWith 9 (0 ∷ 1 ∷ 2 ∷ 3 ∷ 4 ∷ 5 ∷ 6 ∷ 7 ∷ 8 ∷ 9 ∷ 10 ∷ 11 ∷ 12 ∷ 13 ∷ 14 ∷ 15 ∷ 16 ∷ 17 ∷ 18 ∷ 19 ∷ 20 ∷ 21 ∷ 22 ∷ 23 ∷ []) 192)
+
+pub short-seeding-computes :
+    (line8 seeding18) ∷ (take 8 (drop 4 (seeding18 .keeper .generator))) ∷ []
+    ≡ (0 ∷ 0 ∷ 0 ∷ 16 ∷ 0 ∷ 0 ∷ 64 ∷ 0 ∷ []) ∷ (0xf2511c58 ∷ 0x2c373080 ∷ 0x89e29f44 ∷ 0xba940af3 ∷ 0x0000be71 ∷ 0 ∷ 0 ∷ 0 ∷ []) ∷ []
+unfolding told inRange restInRange ledgerInRange act seedCall creditInput reseed taken credited further extractBlocks poolHash hashed folded compressed initialHash run step schedule nextWord constant Sha1·mix ch parity maj swapped leNumber leBytes wordsBytes bytesWords xorAt mix mixedWords tapped twisted rotl zipWith pick
+short-seeding-computes = refl
+
 -- a generator read of 32 bytes from the state of RFC 7539, section 2.3.2: the block's first half is handed out, its second half is
 -- xored onto the key, and the counter moves on by one
 abbrev rfc : Keeper
@@ -92,6 +114,24 @@ pub read-computes :
     ∷ 0x00000002 ∷ 0x09000000 ∷ 0x4a000000 ∷ 0x00000000 ∷ []) ∷ []
 unfolding told inRange restInRange ledgerInRange act readCall generate generated stream counted xorAt bytesWords leNumber wordsBytes leBytes chachaBlock rounds innerBlock quarterRound line rotl zipWith signed pick
 read-computes = refl
+
+-- a read of 13 bytes from the same state, whose key comes from byte 16 on, and then one of 9, whose key comes from byte 12 on
+abbrev read13 : Outcome
+read13 = told rfc (generatorRead 0 13)
+
+abbrev read9 : Outcome
+read9 = told (read13 .keeper) (generatorRead 0 9)
+
+pub odd-reads-compute :
+    (line8 read13) ∷ (read13 .bytes) ∷ (read13 .keeper .generator) ∷ (line8 read9) ∷ (read9 .bytes) ∷ (read9 .keeper .generator) ∷ []
+    ≡ (0 ∷ 13 ∷ 1 ∷ 0 ∷ 0 ∷ 0 ∷ 0 ∷ 0 ∷ []) ∷ (0x10 ∷ 0xf1 ∷ 0xe7 ∷ 0xe4 ∷ 0xd1 ∷ 0x3b ∷ 0x59 ∷ 0x15 ∷ 0x50 ∷ 0x0f ∷ 0xdd ∷ 0x1f ∷ 0xa3 ∷ [])
+    ∷ (0x61707865 ∷ 0x3320646e ∷ 0x79622d32 ∷ 0x6b206574 ∷ 0xc4f6d0c7 ∷ 0x046ec537 ∷ 0x91a02b0c ∷ 0x4162d9cf
+    ∷ 0x557693c2 ∷ 0x1ebc8a13 ∷ 0x1ecddb0c ∷ 0xbd1c96c5 ∷ 0x00000002 ∷ 0x09000000 ∷ 0x4a000000 ∷ 0x00000000 ∷ [])
+    ∷ (0 ∷ 9 ∷ 1 ∷ 0 ∷ 0 ∷ 0 ∷ 0 ∷ 0 ∷ []) ∷ (0x33 ∷ 0x2e ∷ 0xab ∷ 0xc9 ∷ 0xa4 ∷ 0x58 ∷ 0x9c ∷ 0x96 ∷ 0x77 ∷ [])
+    ∷ (0x61707865 ∷ 0x3320646e ∷ 0x79622d32 ∷ 0x6b206574 ∷ 0xe7cf6eb2 ∷ 0x5b3f645f ∷ 0x12cc8f99 ∷ 0x3105bec7
+    ∷ 0x784d3671 ∷ 0x7b7aa9a7 ∷ 0x5c904783 ∷ 0xe7e2fe91 ∷ 0x00000003 ∷ 0x09000000 ∷ 0x4a000000 ∷ 0x00000000 ∷ []) ∷ []
+unfolding told inRange restInRange ledgerInRange act readCall generate generated stream counted xorAt bytesWords leNumber wordsBytes leBytes chachaBlock rounds innerBlock quarterRound line rotl zipWith signed pick
+odd-reads-compute = refl
 
 -- a blocking read of 10 bytes from a pool that has them: one extraction block, two compressions, 20 bytes mixed back
 abbrev filled : Keeper
