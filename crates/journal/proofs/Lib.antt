@@ -1,6 +1,10 @@
 pub mod Parts
 pub mod Onward
-pub mod Longer
+pub mod Cut
 pub mod GoodHeader
 pub mod Laws
+pub mod Told
+pub mod Walks
+pub mod CutWalks
+pub mod CutJournals
 pub mod Vectors

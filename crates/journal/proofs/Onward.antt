@@ -61,24 +61,24 @@ module _ (j : List ℕ) (at : ℕ) where
 abbrev pub Left : List ℕ → ℕ → ℕ → Type 0
 Left j at e = (f : ℕ) × (length j < at + f) × (endingFrom f j at ≡ e)
 
-module _ (j : List ℕ) (at e : ℕ) where
-  -- behind the last byte nothing stands
-  pub past : length j < at → readAt j at ≡ End
-  unfolding readAt pick
-  past h = let q : length j ≤ at = omega arith in rw le-ltb
+-- behind the last byte nothing stands
+pub past : (j : List ℕ) (at : ℕ) → length j ≤ at → readAt j at ≡ End
+unfolding readAt pick
+past j at h = rw le-ltb
 
+module _ (j : List ℕ) (at e : ℕ) where
   -- a record: what is left after it ends the journal alike
   pub more : (r : Record) (next : ℕ) → Left j at e → readAt j at ≡ One r next → Left j next e
   unfolding endingFrom
   more r next (zero, b, q) h =
-      let p : readAt j at ≡ End = past (omega arith) in let z : _≡_ {A = ℕ} 0 1 = cc in let no : ⊥ = omega arith in elim no as (λ _. Left j next e) [ ]
+      let p : readAt j at ≡ End = past j at (omega arith) in let z : _≡_ {A = ℕ} 0 1 = cc in let no : ⊥ = omega arith in elim no as (λ _. Left j next e) [ ]
   more r next (suc f, b, q) h =
       let m : Ahead j at (One r next) = rw h at (ahead j at) in (f, omega arith, rw h at q)
 
   -- a number: it is the one
   pub stops : (n : ℕ) → Left j at e → readAt j at ≡ Stop n → n ≡ e
   unfolding endingFrom
-  stops n (zero, b, q) h = let p : readAt j at ≡ End = past (omega arith) in cc
+  stops n (zero, b, q) h = let p : readAt j at ≡ End = past j at (omega arith) in cc
   stops n (suc f, b, q) h = rw h at q
 
   -- no more bytes: 0

@@ -2,4 +2,5 @@ pub mod Fields
 pub mod Records
 pub mod Header
 pub mod Ending
-pub mod Beginnings
+pub mod Walking
+pub mod Cutting

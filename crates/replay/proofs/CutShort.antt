@@ -1,30 +1,35 @@
--- A journal that is cut anywhere replays to the first of the whole's lines: what earlier records did stays, and nothing else is done. Assumes
--- nothing.
+-- A journal that is cut anywhere: what its earlier records did stays, and nothing else is done. Its replay makes the calls of those records of
+-- the whole that end within the cut, writes their lines and leaves the keeper that they leave. Assumes nothing.
 use mathlib.Core.Path.{_≡_, refl, sym, ap, ap₂, _∙_}
 use mathlib.Core.Bool.{Bool, true, false}
-use mathlib.Core.List.{List, [], _∷_, _++_, map, map-append, append-assoc}
-use Prim.Native.Nat.{ℕ, zero, suc}
-use native.Mathlib.Omega.{arith}
+use mathlib.Core.List.{List, [], _∷_, _++_, map}
+use Prim.Native.Nat.{ℕ, zero, suc, min}
 use borrow.Author.Tests.{eqb-true, eqb-false, eq-eqb, ne-eqb}
 use lib.Dec.{eqb}
-use lib.ListN.{length, take, drop}
+use lib.ListN.{length, take}
 use Rattle.ledger.specs.Choice.{pick}
 use Rattle.journal.specs.Records.{readAt}
 use Rattle.journal.specs.Header.{headerOf, startOf}
-use Rattle.journal.specs.Ending.{recordsFrom, recordsOf}
-use Rattle.journal.specs.Beginnings.{Begins}
+use Rattle.journal.specs.Ending.{recordsOf}
+use Rattle.journal.specs.Walking.{Walk, walk, walkOf, recordsIn}
+use Rattle.journal.specs.Cutting.{upTo}
 use Rattle.journal.specs.declared.records.Record.{Record}
 use Rattle.journal.specs.declared.records.Record.the-variants.{Event, Interrupt, Write, Seed, Read, BlockingRead}
-use Rattle.journal.specs.declared.records.Found.{Found}
 use Rattle.journal.specs.declared.records.Found.the-variants.{One, Stop, End}
-use Rattle.journal.proofs.Laws.{cut, write-cut, seed-cut, start-cut}
+use Rattle.journal.proofs.Laws.{write-cut, seed-cut, start-cut}
+use Rattle.journal.proofs.GoodHeader.{header-cut, header-kept}
+use Rattle.journal.proofs.Walks.{along, walk-one, walk-stop, walk-end, good-walk, bad-walk, ending-walked, records-walked}
+use Rattle.journal.proofs.CutWalks.{stops-ahead}
+use Rattle.journal.proofs.CutJournals.{map-take, cut-records, cut-ending, cut-first, salvaged}
+use Rattle.transcript.specs.Lines.{endOf}
 use Rattle.keeper.specs.Record.{Outcome, fresh}
 use Rattle.keeper.specs.Calls.{Call}
 use Rattle.keeper.specs.Narrative.{told}
 use Rattle.keeper.specs.Demands.{outcomes, keeperAfter}
 use Rattle.keeper.specs.declared.Keeper.{Keeper}
-use Rattle.replay.specs.Running.{callOf, lineFor}
-use Rattle.replay.specs.Whole.{callsOf, outcomesOf, linesOf}
+use Rattle.replay.specs.Running.{callOf}
+use Rattle.replay.specs.Whole.{callsOf, outcomesOf, linesOf, transcriptOf, replayed}
+use Rattle.replay.specs.Cutting.{callsWithin, outcomesWithin, transcriptWithin, replayedWithin}
 
 -- ---- a record that is read of the cut journal is the same call
 same-call : (n : ℕ) (j : List ℕ) (at : ℕ) (r : Record) (next : ℕ) → readAt (take n j) at ≡ One r next → callOf (take n j) r ≡ callOf j r
@@ -36,56 +41,97 @@ same-call n j at (Seed now credit start len) next e = ap (λ (bs : List ℕ). Ca
 same-call n j at (Read now len) next e = refl
 same-call n j at (BlockingRead now len) next e = refl
 
-same-calls : (f n : ℕ) (j : List ℕ) (at : ℕ) → map (callOf (take n j)) (recordsFrom f (take n j) at) ≡ map (callOf j) (recordsFrom f (take n j) at)
-unfolding recordsFrom
-same-calls zero n j at = refl
-same-calls (suc f) n j at = by (readAt (take n j) at) refl (λ next. same-calls f n j next)
+same-calls : (n : ℕ) (j : List ℕ) (at : ℕ) → map (callOf (take n j)) (recordsIn (walk (take n j) at)) ≡ map (callOf j) (recordsIn (walk (take n j) at))
+same-calls n j =
+    along (take n j) (λ at. map (callOf (take n j)) (recordsIn (walk (take n j) at)) ≡ map (callOf j) (recordsIn (walk (take n j) at)))
+    (λ at r next e on. rw (walk-one (take n j) at r next e) (ap₂ (λ (c : Call) (cs : List Call). c ∷ cs) (same-call n j at r next e) on))
+    (λ at m e. rw (walk-stop (take n j) at m e) refl)
+    (λ at e. rw (walk-end (take n j) at e) refl)
+
+-- by the header: where it is not good there is no record
+if-good : (j : List ℕ) (P : Type 0) → (headerOf j ≡ 0 → P) → ((headerOf j ≡ 0 → ⊥) → recordsOf j ≡ [] → P) → P
+if-good j P good bad = by (eqb (headerOf j) 0) refl
   where
-    by : (x : Found) → readAt (take n j) at ≡ x
-        → ((next : ℕ) → map (callOf (take n j)) (recordsFrom f (take n j) next) ≡ map (callOf j) (recordsFrom f (take n j) next))
-        → map (callOf (take n j)) (recordsFrom (suc f) (take n j) at) ≡ map (callOf j) (recordsFrom (suc f) (take n j) at)
-    by (One r next) e on = rw e (ap₂ (λ (c : Call) (cs : List Call). c ∷ cs) (same-call n j at r next e) (on next))
-    by (Stop m) e on = rw e refl
-    by End e on = rw e refl
+    by : (b : Bool) → eqb (headerOf j) 0 ≡ b → P
+    by true e = good (eqb-true (headerOf j) 0 e)
+    by false e = let h = eqb-false (headerOf j) 0 e in bad h (records-walked j ∙ ap recordsIn (bad-walk j h))
 
--- ---- more calls come after
-later : (k : Keeper) (xs ys : List Call) → outcomes k (xs ++ ys) ≡ outcomes k xs ++ outcomes (keeperAfter k xs) ys
-unfolding outcomes keeperAfter
-later k [] ys = refl
-later k (x ∷ xs) ys = ap (λ (os : List Outcome). told k x ∷ os) (later ((told k x) .keeper) xs ys)
+module _ (n : ℕ) (j : List ℕ) where
+  -- what is left is replayed as records of the whole journal
+  own-calls : callsOf (take n j) ≡ map (callOf j) (recordsOf (take n j))
+  own-calls =
+      if-good (take n j) (callsOf (take n j) ≡ map (callOf j) (recordsOf (take n j)))
+      (λ h. rw (records-walked (take n j), good-walk (take n j) h) (same-calls n j 53))
+      (λ h z. rw z refl)
 
-lines-append : (xs ys : List Outcome) → linesOf (xs ++ ys) ≡ linesOf xs ++ linesOf ys
-unfolding linesOf
-lines-append [] ys = refl
-lines-append (x ∷ xs) ys = ap (λ (l : List ℕ). lineFor x ++ l) (lines-append xs ys) ∙ sym (append-assoc (lineFor x) _ _)
+  own-outcomes : outcomesOf (take n j) ≡ outcomes (fresh (startOf j)) (map (callOf j) (recordsOf (take n j)))
+  unfolding outcomes
+  own-outcomes =
+      if-good (take n j) (outcomesOf (take n j) ≡ outcomes (fresh (startOf j)) (map (callOf j) (recordsOf (take n j))))
+      (λ h. ap₂ (λ (s : List ℕ) (cs : List Call). outcomes (fresh s) cs) (start-cut n j h) own-calls)
+      (λ h z. rw z refl)
 
--- ---- where the cut journal's header is not good, it has no line
-unlined : (j : List ℕ) → eqb (headerOf j) 0 ≡ false → linesOf (outcomesOf j) ≡ []
-unfolding recordsOf outcomes linesOf pick
-unlined j h = rw h refl
+  -- THE CALLS
+  pub cut-calls : callsOf (take n j) ≡ callsWithin (min n (length j)) j
+  cut-calls = own-calls ∙ ap (map (callOf j)) (cut-records n j)
 
--- ---- where it is, its records are the first of the whole's
-lined : (n : ℕ) (j : List ℕ) → headerOf j ≡ 0 → headerOf (take n j) ≡ 0 → Begins (linesOf (outcomesOf (take n j))) (linesOf (outcomesOf j))
-unfolding recordsOf pick
-lined n j h g =
-    let b = cut n j h in
-    let s = start-cut n j g in
-    let same : callsOf (take n j) ≡ map (callOf j) (recordsOf (take n j)) = rw (eq-eqb (headerOf (take n j)) 0 g) (same-calls (length (take n j)) n j 53) in
+  -- THE OUTCOMES
+  pub cut-outcomes : outcomesOf (take n j) ≡ outcomesWithin (min n (length j)) j
+  cut-outcomes = own-outcomes ∙ ap (λ (rs : List Record). outcomes (fresh (startOf j)) (map (callOf j) rs)) (cut-records n j)
+
+  -- THE TRANSCRIPT
+  pub cut-transcript : transcriptOf (take n j) ≡ transcriptWithin (min n (length j)) j
+  unfolding transcriptOf transcriptWithin
+  cut-transcript = ap₂ (λ (os : List Outcome) (m : ℕ). linesOf os ++ endOf m) cut-outcomes (cut-ending n j)
+
+  -- THE KEEPER
+  pub cut-keeper : (k : Keeper) → replayed (take n j) k ≡ replayedWithin (min n (length j)) j k
+  unfolding replayed replayedWithin pick
+  cut-keeper k =
+      if-good (take n j) (replayed (take n j) k ≡ replayedWithin (min n (length j)) j k)
+      (λ h. let z = eq-eqb (headerOf (take n j)) 0 h in
+      rw (← header-cut n j, z) (ap₂ (λ (s : List ℕ) (cs : List Call). keeperAfter (fresh s) cs) (start-cut n j h) cut-calls))
+      (λ h _. let z = ne-eqb (headerOf (take n j)) 0 h in rw (← header-cut n j, z) refl)
+
+-- ---- of a journal with a good header: the first outcomes, as many as records end within the cut
+first-outcomes : (k : Keeper) (m : ℕ) (cs : List Call) → outcomes k (take m cs) ≡ take m (outcomes k cs)
+unfolding outcomes
+first-outcomes k zero cs = refl
+first-outcomes k (suc m) [] = refl
+first-outcomes k (suc m) (c ∷ cs) = ap (λ (os : List Outcome). told k c ∷ os) (first-outcomes ((told k c) .keeper) m cs)
+
+-- WHAT EARLIER RECORDS DID STAYS
+pub cut-keeps : (n : ℕ) (j : List ℕ) → headerOf j ≡ 0 → outcomesOf (take n j) ≡ take (length (upTo n (walkOf j .entries))) (outcomesOf j)
+cut-keeps n j good =
+    let m = length (upTo n (walkOf j .entries)) in
     let k = fresh (startOf j) in
-    let xs = map (callOf j) (recordsOf (take n j)) in
-    let ys = map (callOf j) (b .rest) in
-    let first : outcomesOf (take n j) ≡ outcomes k xs = ap₂ (λ (t : List ℕ) (cs : List Call). outcomes (fresh t) cs) s same in
-    let all : outcomesOf j ≡ outcomes k xs ++ outcomes (keeperAfter k xs) ys =
-    ap (λ (rs : List Record). outcomes k (map (callOf j) rs)) (b .then) ∙ ap (outcomes k) (map-append (callOf j) (recordsOf (take n j)) (b .rest)) ∙ later k xs ys in
-    record {
-      rest = linesOf (outcomes (keeperAfter k xs) ys);
-      then = ap linesOf all ∙ lines-append _ _ ∙ ap (λ (os : List Outcome). linesOf os ++ linesOf (outcomes (keeperAfter k xs) ys)) (sym first);
-    }
+    own-outcomes n j
+    ∙ ap (λ (rs : List Record). outcomes k (map (callOf j) rs)) (cut-first n j good)
+    ∙ ap (outcomes k) (map-take (callOf j) m (recordsOf j))
+    ∙ first-outcomes k m (callsOf j)
 
--- THE CUT
-pub cut-lines : (n : ℕ) (j : List ℕ) → headerOf j ≡ 0 → Begins (linesOf (outcomesOf (take n j))) (linesOf (outcomesOf j))
-cut-lines n j h = by (eqb (headerOf (take n j)) 0) refl
-  where
-    by : (b : Bool) → eqb (headerOf (take n j)) 0 ≡ b → Begins (linesOf (outcomesOf (take n j))) (linesOf (outcomesOf j))
-    by true e = lined n j h (eqb-true (headerOf (take n j)) 0 e)
-    by false e = record { rest = linesOf (outcomesOf j); then = sym (ap (λ (l : List ℕ). l ++ linesOf (outcomesOf j)) (unlined (take n j) e)) }
+-- SALVAGE: a journal with a good header, cut where its walk stops, has the very lines of the whole, then the end of a whole journal, and leaves the
+-- same keeper
+module _ (j : List ℕ) (good : headerOf j ≡ 0) where
+  abbrev saved : List ℕ
+  saved = take (walkOf j .stop) j
+
+  saved-records : recordsOf saved ≡ recordsOf j
+  saved-records = records-walked saved ∙ ap recordsIn (salvaged j good) ∙ sym (records-walked j)
+
+  saved-good : headerOf saved ≡ 0
+  saved-good = header-kept (walkOf j .stop) j (rw (good-walk j good) (stops-ahead j 53)) good
+
+  pub salvaged-transcript : transcriptOf (take (walkOf j .stop) j) ≡ linesOf (outcomesOf j) ++ endOf 0
+  unfolding transcriptOf
+  salvaged-transcript =
+      ap₂ (λ (os : List Outcome) (m : ℕ). linesOf os ++ endOf m)
+      (own-outcomes (walkOf j .stop) j ∙ ap (λ (rs : List Record). outcomes (fresh (startOf j)) (map (callOf j) rs)) saved-records)
+      (ending-walked saved ∙ ap (λ (w : Walk). w .number) (salvaged j good))
+
+  pub salvaged-keeper : (k : Keeper) → replayed (take (walkOf j .stop) j) k ≡ replayed j k
+  unfolding replayed pick
+  salvaged-keeper k =
+      rw (eq-eqb (headerOf saved) 0 saved-good, eq-eqb (headerOf j) 0 good)
+      (ap₂ (λ (s : List ℕ) (cs : List Call). keeperAfter (fresh s) cs) (start-cut (walkOf j .stop) j saved-good)
+      (own-calls (walkOf j .stop) j ∙ ap (map (callOf j)) saved-records))

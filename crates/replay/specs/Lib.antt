@@ -1,3 +1,4 @@
 pub mod Running
 pub mod Turns
 pub mod Whole
+pub mod Cutting

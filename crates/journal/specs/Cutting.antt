@@ -1,0 +1,51 @@
+-- A journal of which only the first n bytes are left: its walk, said of the whole journal. The records that end within these bytes are kept, and
+-- no other; the number is 0 where the cut is between two records, else it is what is left that tells.
+use Prim.Native.Nat.{ℕ, _+_}
+use mathlib.Core.Bool.{Bool, true}
+use mathlib.Core.List.{List, [], _∷_}
+use lib.ListN.{length, getD}
+use lib.Dec.{leb, ltb, eqb}
+use Rattle.ledger.specs.Choice.{pick}
+use Rattle.ledger.specs.Numbers.{cutShort}
+use Rattle.journal.specs.Fields.{num}
+use Rattle.journal.specs.Header.{headerWithin}
+use Rattle.journal.specs.Walking.{Entry, Walk, halt, walk}
+
+-- the entries that end at n or before
+unfoldable pub upTo : ℕ → List Entry → List Entry
+upTo n [] = []
+upTo n (e ∷ es) = pick (leb (e .next) n) (e ∷ upTo n es) (upTo n es)
+
+-- where the last of them ends; where there is none, where the first would begin
+unfoldable pub reached : ℕ → List Entry → ℕ
+reached at [] = at
+reached at (e ∷ es) = reached (e .next) es
+
+-- n is where the first begins, or where one of them ends
+unfoldable pub boundary : ℕ → ℕ → List Entry → Bool
+boundary n at [] = eqb n at
+boundary n at (e ∷ es) = pick (eqb n at) true (boundary n (e .next) es)
+
+-- how many bytes tell what a record of a kind is, with a length in its sixth and seventh byte. An unknown kind is told by its own byte; a write
+-- and a seed that are too long by their fields, and others by their bytes too; all else by its fields.
+unfoldable pub telling : ℕ → ℕ → ℕ
+telling kind len =
+    let bytes = pick (ltb 4096 len) 0 len in
+    getD (1 ∷ 18 ∷ 25 ∷ (7 + bytes) ∷ (11 + bytes) ∷ 7 ∷ 7 ∷ []) kind 1
+
+-- how many bytes tell what stands at a position: none where the journal has no byte there
+unfoldable pub enough : List ℕ → ℕ → ℕ
+enough j at = pick (ltb at (length j)) (telling (getD j at 0) (num 2 j (at + 5))) 0
+
+-- the number of what n bytes leave, by the walk of the whole from a position on: 0 at the end of a record; the whole's own number where enough is
+-- left of what ends it; else cut short
+unfoldable pub cutNumber : ℕ → List ℕ → ℕ → Walk → ℕ
+cutNumber n j at w = pick (boundary n at (w .entries)) 0 (pick (leb (w .stop + enough j (w .stop)) n) (w .number) cutShort)
+
+-- what n bytes leave of a walk from a position on
+unfoldable pub cutWalk : ℕ → List ℕ → ℕ → Walk → Walk
+cutWalk n j at w = record { entries = upTo n (w .entries); stop = reached at (upTo n (w .entries)); number = cutNumber n j at w }
+
+-- and of a journal: the header is judged by what is left of it, and so is the size
+unfoldable pub walkWithin : ℕ → List ℕ → Walk
+walkWithin n j = pick (eqb (headerWithin n j) 0) (cutWalk n j 53 (walk j 53)) (halt 0 (headerWithin n j))
