@@ -32,6 +32,7 @@ as-far n j = side (ltb n (length j)) refl
         let m : min n (length j) ≡ length j = omega arith in
         take-all n j l ∙ sym (take-length j) ∙ ap (λ k. take k j) (sym m)
 
+-- the first of what is made of each
 pub map-take : {A B : Type 0} (f : A → B) (m : ℕ) (l : List A) → map f (take m l) ≡ take m (map f l)
 map-take f zero l = refl
 map-take f (suc m) [] = refl
@@ -59,7 +60,7 @@ cut-records n j = records-walked (take n j) ∙ ap recordsIn (cut n j)
 pub cut-ending : (n : ℕ) (j : List ℕ) → endingOf (take n j) ≡ walkWithin (min n (length j)) j .number
 cut-ending n j = ending-walked (take n j) ∙ ap (λ (w : Walk). w .number) (cut n j)
 
--- of a good header that is kept nothing is left to say
+-- where the whole has a good header, and the cut leaves it
 pub cut-behind : (n : ℕ) (j : List ℕ) → headerOf j ≡ 0 → 53 ≤ n → walkOf (take n j) ≡ cutWalk n j 53 (walkOf j)
 cut-behind n j good h = rw (good-walk (take n j) (header-kept n j h good), good-walk j good) (walk-cut n j 53 h)
 
@@ -75,7 +76,7 @@ cut-first n j good = side (ltb n 53) refl
         rw (none, good-walk j good, none-before j n 53 (omega (arith, l))) refl
     side false b =
         let c = cut-behind n j good (ltb-false n 53 b) in
-        let f : upTo n (walkOf j .entries) ≡ take (length (upTo n (walkOf j .entries))) (walkOf j .entries) = rw (good-walk j good) (first-of-them j n 53) in
+        let f : upTo n (walkOf j .entries) ≡ take (length (upTo n (walkOf j .entries))) (walkOf j .entries) = rw (good-walk j good) (first-of-them n j 53) in
         records-walked (take n j) ∙ ap recordsIn c ∙ ap (map what) f ∙ map-take what (length (upTo n (walkOf j .entries))) (walkOf j .entries)
         ∙ ap (take (length (upTo n (walkOf j .entries)))) (sym (records-walked j))
 

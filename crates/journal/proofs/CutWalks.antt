@@ -10,14 +10,12 @@ use lib.ListN.{length, take}
 use Rattle.ledger.specs.Choice.{pick}
 use Rattle.ledger.specs.Numbers.{cutShort}
 use Rattle.journal.specs.Records.{readAt}
-use Rattle.journal.specs.Walking.{Entry, Walk, onto, halt, walk}
+use Rattle.journal.specs.Walking.{Entry, entry, onto, halt, walk}
 use Rattle.journal.specs.Cutting.{upTo, reached, boundary, enough, cutNumber, cutWalk}
 use Rattle.journal.specs.declared.records.Record.{Record}
-use Rattle.journal.specs.declared.records.Found.{Found}
 use Rattle.journal.specs.declared.records.Found.the-variants.{One, Stop, End}
 use Rattle.journal.proofs.Laws.{read-ahead}
-use Rattle.journal.proofs.Cut.{read-cut}
-use Rattle.journal.proofs.Told.{told-by, end-past, none-to-tell}
+use Rattle.journal.proofs.Told.{told-by, end-past, none-to-tell, read-kept, read-off, read-none, read-shorter}
 use Rattle.journal.proofs.Walks.{along, walk-one, walk-stop, walk-end}
 
 -- ---- where a walk goes
@@ -29,14 +27,6 @@ module _ (j : List ℕ) where
       (λ at r next e on. rw (walk-one j at r next e) (omega (arith, on, read-ahead j at r next e .0)))
       (λ at n e. rw (walk-stop j at n e) (omega arith))
       (λ at e. rw (walk-end j at e) (omega arith))
-
-  -- and not beyond the journal
-  pub stops-within : (at : ℕ) → at ≤ length j → walk j at .stop ≤ length j
-  stops-within =
-      along j (λ at. at ≤ length j → walk j at .stop ≤ length j)
-      (λ at r next e on h. rw (walk-one j at r next e) (on (read-ahead j at r next e .1)))
-      (λ at m e h. rw (walk-stop j at m e) h)
-      (λ at e h. rw (walk-end j at e) h)
 
   -- no entry ends at or before the position where it begins
   pub none-before : (n at : ℕ) → n ≤ at → upTo n (walk j at .entries) ≡ []
@@ -61,15 +51,14 @@ module _ (j : List ℕ) where
       let s = stops-ahead at in
       rw (no-boundary-before n at h, lt-leb (walk j at .stop + enough j (walk j at .stop)) n (omega arith)) refl
 
--- a walk has all its entries up to where it stops, which is a boundary of it
-module _ (j : List ℕ) where
+  -- up to where it stops it has all its entries; and there is a boundary, where the last of them ends
   pub all-up-to : (n at : ℕ) → walk j at .stop ≤ n → upTo n (walk j at .entries) ≡ walk j at .entries
   unfolding upTo pick
   all-up-to n =
       along j (λ at. walk j at .stop ≤ n → upTo n (walk j at .entries) ≡ walk j at .entries)
       (λ at r next e on h.
       let k : walk j next .stop ≤ n = rw (walk-one j at r next e) at h in
-      rw (walk-one j at r next e, le-leb next n (omega (arith, k, stops-ahead j next))) (ap (λ (es : List Entry). record { place = at; what = r; next = next } ∷ es) (on k)))
+      rw (walk-one j at r next e, le-leb next n (omega (arith, k, stops-ahead next))) (ap (λ (es : List Entry). entry at r next ∷ es) (on k)))
       (λ at m e h. rw (walk-stop j at m e) refl)
       (λ at e h. rw (walk-end j at e) refl)
 
@@ -77,7 +66,7 @@ module _ (j : List ℕ) where
   unfolding boundary pick
   stop-boundary =
       along j (λ at. boundary (walk j at .stop) at (walk j at .entries) ≡ true)
-      (λ at r next e on. rw (walk-one j at r next e, ne-eqb (walk j next .stop) at (λ q. omega (arith, q, stops-ahead j next, read-ahead j at r next e .0))) on)
+      (λ at r next e on. rw (walk-one j at r next e, ne-eqb (walk j next .stop) at (λ q. omega (arith, q, stops-ahead next, read-ahead j at r next e .0))) on)
       (λ at m e. rw (walk-stop j at m e) (eq-eqb at at refl))
       (λ at e. rw (walk-end j at e) (eq-eqb at at refl))
 
@@ -89,36 +78,26 @@ module _ (j : List ℕ) where
       (λ at m e. rw (walk-stop j at m e) refl)
       (λ at e. rw (walk-end j at e) refl)
 
-  -- the entries up to a cut are the first of them
-  pub first-of-them : (n at : ℕ) → upTo n (walk j at .entries) ≡ take (length (upTo n (walk j at .entries))) (walk j at .entries)
-  unfolding upTo pick
-  first-of-them n =
-      along j (λ at. upTo n (walk j at .entries) ≡ take (length (upTo n (walk j at .entries))) (walk j at .entries))
-      (λ at r next e on. rw (walk-one j at r next e) (by at r next (leb next n) refl on))
-      (λ at m e. rw (walk-stop j at m e) refl)
-      (λ at e. rw (walk-end j at e) refl)
-    where
-      by : (at : ℕ) (r : Record) (next : ℕ) (b : Bool) → leb next n ≡ b → upTo n (walk j next .entries) ≡ take (length (upTo n (walk j next .entries))) (walk j next .entries)
-          → pick b (record { place = at; what = r; next = next } ∷ upTo n (walk j next .entries)) (upTo n (walk j next .entries))
-          ≡ take (length (pick b (record { place = at; what = r; next = next } ∷ upTo n (walk j next .entries)) (upTo n (walk j next .entries)))) (record { place = at; what = r; next = next } ∷ walk j next .entries)
-      by at r next true b on = ap (λ (es : List Entry). record { place = at; what = r; next = next } ∷ es) on
-      by at r next false b on = let l = leb-false next n b in rw (none-before j n next (omega (arith, l))) refl
+-- ---- the entries up to a cut are the first of them
+first-then : (n : ℕ) (e : Entry) (es : List Entry) → upTo n es ≡ take (length (upTo n es)) es → (n < e .next → upTo n es ≡ [])
+    → upTo n (e ∷ es) ≡ take (length (upTo n (e ∷ es))) (e ∷ es)
+unfolding upTo pick
+first-then n e es on none = side (leb (e .next) n) refl
+  where
+    side : (b : Bool) → leb (e .next) n ≡ b → upTo n (e ∷ es) ≡ take (length (upTo n (e ∷ es))) (e ∷ es)
+    side true b = rw b (ap (λ (l : List Entry). e ∷ l) on)
+    side false b = rw (b, none (leb-false (e .next) n b)) refl
+
+pub first-of-them : (n : ℕ) (j : List ℕ) (at : ℕ) → upTo n (walk j at .entries) ≡ take (length (upTo n (walk j at .entries))) (walk j at .entries)
+unfolding upTo
+first-of-them n j =
+    along j (λ at. upTo n (walk j at .entries) ≡ take (length (upTo n (walk j at .entries))) (walk j at .entries))
+    (λ at r next e on. rw (walk-one j at r next e) (first-then n (entry at r next) (walk j next .entries) on (λ l. none-before j n next (omega (arith, l)))))
+    (λ at m e. rw (walk-stop j at m e) refl)
+    (λ at e. rw (walk-end j at e) refl)
 
 -- ---- the cut
 module _ (n : ℕ) (j : List ℕ) where
-  -- what is read of the cut journal, by what is read of the whole
-  read-kept : (at : ℕ) → at < n → at + enough j at ≤ n → readAt (take n j) at ≡ readAt j at
-  unfolding pick
-  read-kept at h k = read-cut n j at ∙ rw (lt-leb n at h, le-leb (at + enough j at) n k) refl
-
-  read-off : (at : ℕ) → at < n → n < at + enough j at → readAt (take n j) at ≡ Stop cutShort
-  unfolding pick
-  read-off at h k = read-cut n j at ∙ rw (lt-leb n at h, lt-leb (at + enough j at) n k) refl
-
-  read-none : (at : ℕ) → n ≤ at → readAt (take n j) at ≡ End
-  unfolding pick
-  read-none at h = read-cut n j at ∙ rw (le-leb n at h) refl
-
   here : (es : List Entry) → boundary n n es ≡ true
   unfolding boundary pick
   here [] = eq-eqb n n refl
@@ -129,7 +108,7 @@ module _ (n : ℕ) (j : List ℕ) where
 
   at-the-cut : (at : ℕ) → at ≡ n → Kept at
   unfolding cutWalk cutNumber reached pick
-  at-the-cut at h = rw (walk-end (take n j) at (read-none at (omega (arith, h))), h, none-before j n n (omega arith), here (walk j n .entries)) refl
+  at-the-cut at h = rw (walk-end (take n j) at (read-none n j at (omega (arith, h))), h, none-before j n n (omega arith), here (walk j n .entries)) refl
 
   before-the-cut : (at : ℕ) → (at < n → Kept at) → at ≤ n → Kept at
   before-the-cut at f h = side (ltb at n) refl
@@ -145,14 +124,13 @@ module _ (n : ℕ) (j : List ℕ) where
       side : (b : Bool) → leb next n ≡ b → Kept at
       side true b =
           let l = leb-true next n b in
-          let t = told-by j at r next e in
-          rw (walk-one (take n j) at r next (read-kept at h (omega (arith, t, l)) ∙ e), walk-one j at r next e, b, ne-eqb n at (λ q. omega (arith, q, h)))
-          (ap (onto (record { place = at; what = r; next = next })) (on l))
+          rw (walk-one (take n j) at r next (read-shorter n j at r next e l), walk-one j at r next e, b, ne-eqb n at (λ q. omega (arith, q, h)))
+          (ap (onto (entry at r next)) (on l))
       side false b =
           let l = leb-false next n b in
           let t = told-by j at r next e in
           let c = cut-before j n next l in
-          rw (walk-stop (take n j) at cutShort (read-off at h (omega (arith, t, l))), walk-one j at r next e, b, ne-eqb n at (λ q. omega (arith, q, h)), none-before j n next (omega (arith, l)))
+          rw (walk-stop (take n j) at cutShort (read-off n j at h (omega (arith, t, l))), walk-one j at r next e, b, ne-eqb n at (λ q. omega (arith, q, h)), none-before j n next (omega (arith, l)))
           (ap (halt at) (sym c))
 
   at-stop : (at m : ℕ) → readAt j at ≡ Stop m → at < n → Kept at
@@ -161,15 +139,15 @@ module _ (n : ℕ) (j : List ℕ) where
     where
       side : (b : Bool) → leb (at + enough j at) n ≡ b → Kept at
       side true b =
-          rw (walk-stop (take n j) at m (read-kept at h (leb-true (at + enough j at) n b) ∙ e), walk-stop j at m e, ne-eqb n at (λ q. omega (arith, q, h)), b) refl
+          rw (walk-stop (take n j) at m (read-kept n j at h (leb-true (at + enough j at) n b) ∙ e), walk-stop j at m e, ne-eqb n at (λ q. omega (arith, q, h)), b) refl
       side false b =
-          rw (walk-stop (take n j) at cutShort (read-off at h (leb-false (at + enough j at) n b)), walk-stop j at m e, ne-eqb n at (λ q. omega (arith, q, h)), b) refl
+          rw (walk-stop (take n j) at cutShort (read-off n j at h (leb-false (at + enough j at) n b)), walk-stop j at m e, ne-eqb n at (λ q. omega (arith, q, h)), b) refl
 
   at-end : (at : ℕ) → readAt j at ≡ End → at < n → Kept at
   unfolding cutWalk cutNumber reached boundary upTo pick
   at-end at e h =
       let z = none-to-tell j at (end-past j at e) in
-      rw (walk-end (take n j) at (read-kept at h (omega (arith, z, h)) ∙ e), walk-end j at e, ne-eqb n at (λ q. omega (arith, q, h)), z, le-leb (at + 0) n (omega arith)) refl
+      rw (walk-end (take n j) at (read-kept n j at h (omega (arith, z, h)) ∙ e), walk-end j at e, ne-eqb n at (λ q. omega (arith, q, h)), z, le-leb (at + 0) n (omega arith)) refl
 
   -- THE CUT of a walk
   pub walk-cut : (at : ℕ) → at ≤ n → walk (take n j) at ≡ cutWalk n j at (walk j at)

@@ -1,13 +1,14 @@
--- A record ends where what tells it ends; and the end of the journal is found only behind its last byte.
+-- A record ends where what tells it ends. So it is read of a journal that is cut exactly if it ends within the cut, and is the same.
 use mathlib.Core.Path.{_≡_, refl, sym, _∙_}
 use mathlib.Core.Bool.{Bool, true, false}
 use mathlib.Core.List.{List}
 use Prim.Native.Nat.{ℕ, zero, suc, _+_, _≤_, _<_}
 use native.Mathlib.Omega.{arith}
-use borrow.Author.Tests.{ltb-true, ltb-false, lt-ltb, le-ltb}
+use borrow.Author.Tests.{ltb-true, ltb-false, lt-ltb, le-ltb, le-leb, lt-leb}
 use lib.Dec.{leb, ltb}
-use lib.ListN.{length, getD}
+use lib.ListN.{length, getD, take}
 use Rattle.ledger.specs.Choice.{pick}
+use Rattle.ledger.specs.Numbers.{cutShort}
 use Rattle.ledger.proofs.Picks.{pick-both, pick-by}
 use Rattle.journal.specs.Fields.{num}
 use Rattle.journal.specs.Records.{whole, carried, eventAt, interruptAt, writeAt, seedAt, generatorReadAt, blockingReadAt, recordAt, readAt}
@@ -16,6 +17,7 @@ use Rattle.journal.specs.declared.records.Record.{Record}
 use Rattle.journal.specs.declared.records.Found.{Found}
 use Rattle.journal.specs.declared.records.Found.the-variants.{One, Stop, End}
 use Rattle.journal.proofs.Laws.{read-ahead}
+use Rattle.journal.proofs.Cut.{read-cut}
 
 -- what n bytes tell
 abbrev Tells : ℕ → ℕ → Found → Type 0
@@ -67,3 +69,38 @@ module _ (j : List ℕ) (at : ℕ) where
   pub none-to-tell : length j ≤ at → enough j at ≡ 0
   unfolding enough pick
   none-to-tell h = rw (le-ltb at (length j) h) refl
+
+-- ---- a journal that is cut at n
+module _ (n : ℕ) (j : List ℕ) where
+  -- what is read of the cut journal, by what is read of the whole
+  pub read-kept : (at : ℕ) → at < n → at + enough j at ≤ n → readAt (take n j) at ≡ readAt j at
+  unfolding pick
+  read-kept at h k = read-cut n j at ∙ rw (lt-leb n at h, le-leb (at + enough j at) n k) refl
+
+  pub read-off : (at : ℕ) → at < n → n < at + enough j at → readAt (take n j) at ≡ Stop cutShort
+  unfolding pick
+  read-off at h k = read-cut n j at ∙ rw (lt-leb n at h, lt-leb (at + enough j at) n k) refl
+
+  pub read-none : (at : ℕ) → n ≤ at → readAt (take n j) at ≡ End
+  unfolding pick
+  read-none at h = read-cut n j at ∙ rw (le-leb n at h) refl
+
+  -- so a record that ends within the cut is read, and is the same
+  pub read-shorter : (at : ℕ) (r : Record) (next : ℕ) → readAt j at ≡ One r next → next ≤ n → readAt (take n j) at ≡ One r next
+  read-shorter at r next e h =
+      let a = read-ahead j at r next e .0 in
+      let t = told-by j at r next e in
+      read-kept at (omega (arith, a, h)) (omega (arith, t, h)) ∙ e
+
+  -- and no other is
+  pub read-longer : (at : ℕ) (r : Record) (next : ℕ) → readAt (take n j) at ≡ One r next → readAt j at ≡ One r next
+  unfolding pick
+  read-longer at r next e = past-the-cut (leb n at) (sym (read-cut n j at) ∙ e)
+    where
+      told : (b : Bool) → pick b (readAt j at) (Stop cutShort) ≡ One r next → readAt j at ≡ One r next
+      told true q = q
+      told false q = let z : _≡_ {A = ℕ} 0 1 = cc in absurd (omega arith)
+
+      past-the-cut : (b : Bool) → pick b End (pick (leb (at + enough j at) n) (readAt j at) (Stop cutShort)) ≡ One r next → readAt j at ≡ One r next
+      past-the-cut true q = let z : _≡_ {A = ℕ} 0 1 = cc in absurd (omega arith)
+      past-the-cut false q = told (leb (at + enough j at) n) q

@@ -11,7 +11,7 @@ use Rattle.ledger.specs.Choice.{pick}
 use Rattle.journal.specs.Records.{readAt}
 use Rattle.journal.specs.Header.{headerOf}
 use Rattle.journal.specs.Ending.{endingFrom, endingOf, recordsFrom, recordsOf}
-use Rattle.journal.specs.Walking.{Walk, onto, halt, step, walkFrom, walk, walkOf, recordsIn}
+use Rattle.journal.specs.Walking.{entry, Walk, onto, halt, step, walkFrom, walk, walkOf, recordsIn}
 use Rattle.journal.specs.declared.records.Record.{Record}
 use Rattle.journal.specs.declared.records.Found.{Found}
 use Rattle.journal.specs.declared.records.Found.the-variants.{One, Stop, End}
@@ -36,7 +36,7 @@ module _ (j : List ℕ) (P : ℕ → Type 0)
   along at = within (length j) at (omega arith)
 
 step-same : (at : ℕ) (x : Found) (g h : ℕ → Walk) → ((r : Record) (next : ℕ) → x ≡ One r next → g next ≡ h next) → step at x g ≡ step at x h
-step-same at (One r next) g h e = ap (onto (record { place = at; what = r; next = next })) (e r next refl)
+step-same at (One r next) g h e = ap (onto (entry at r next)) (e r next refl)
 step-same at (Stop n) g h e = refl
 step-same at End g h e = refl
 
@@ -53,7 +53,7 @@ unfolding walk walkFrom
 unroll j at = sym (steady (length j) j at (omega arith))
 
 module _ (j : List ℕ) (at : ℕ) where
-  pub walk-one : (r : Record) (next : ℕ) → readAt j at ≡ One r next → walk j at ≡ onto (record { place = at; what = r; next = next }) (walk j next)
+  pub walk-one : (r : Record) (next : ℕ) → readAt j at ≡ One r next → walk j at ≡ onto (entry at r next) (walk j next)
   walk-one r next e = unroll j at ∙ ap (λ (x : Found). step at x (walk j)) e
 
   pub walk-stop : (n : ℕ) → readAt j at ≡ Stop n → walk j at ≡ halt at n

@@ -1,5 +1,6 @@
 -- A journal of which only the first n bytes are left: its walk, said of the whole journal. The records that end within these bytes are kept, and
--- no other; the number is 0 where the cut is between two records, else it is what is left that tells.
+-- no other. The number is 0 where the cut is at the end of a record. Elsewhere it is 10, or the whole's own number where what is left of the
+-- bytes that end the whole is enough to tell it.
 use Prim.Native.Nat.{ℕ, _+_}
 use mathlib.Core.Bool.{Bool, true}
 use mathlib.Core.List.{List, [], _∷_}
@@ -26,19 +27,19 @@ unfoldable pub boundary : ℕ → ℕ → List Entry → Bool
 boundary n at [] = eqb n at
 boundary n at (e ∷ es) = pick (eqb n at) true (boundary n (e .next) es)
 
--- how many bytes tell what a record of a kind is, with a length in its sixth and seventh byte. An unknown kind is told by its own byte; a write
--- and a seed that are too long by their fields, and others by their bytes too; all else by its fields.
+-- how many bytes tell what stands there, from its kind on: of an unknown kind its own byte; of a known one its fields; of a write and of a seed
+-- that are not too long also the bytes that they carry, as many as their length says
 unfoldable pub telling : ℕ → ℕ → ℕ
 telling kind len =
     let bytes = pick (ltb 4096 len) 0 len in
     getD (1 ∷ 18 ∷ 25 ∷ (7 + bytes) ∷ (11 + bytes) ∷ 7 ∷ 7 ∷ []) kind 1
 
--- how many bytes tell what stands at a position: none where the journal has no byte there
+-- the same at a position of a journal, where a write and a seed have their length in the sixth and the seventh byte; behind the last byte
+-- nothing is left to tell
 unfoldable pub enough : List ℕ → ℕ → ℕ
 enough j at = pick (ltb at (length j)) (telling (getD j at 0) (num 2 j (at + 5))) 0
 
--- the number of what n bytes leave, by the walk of the whole from a position on: 0 at the end of a record; the whole's own number where enough is
--- left of what ends it; else cut short
+-- the number that then ends the journal, by the whole's walk from a position on
 unfoldable pub cutNumber : ℕ → List ℕ → ℕ → Walk → ℕ
 cutNumber n j at w = pick (boundary n at (w .entries)) 0 (pick (leb (w .stop + enough j (w .stop)) n) (w .number) cutShort)
 

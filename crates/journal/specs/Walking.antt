@@ -16,6 +16,9 @@ pub record Entry : Type 0 where
   pub what : Record
   pub next : ℕ
 
+abbrev pub entry : ℕ → Record → ℕ → Entry
+entry at r next = record { place = at; what = r; next = next }
+
 -- the records; the position that they reach; the number that stands there, 0 where the bytes end
 pub record Walk : Type 0 where
   pub entries : List Entry
@@ -29,7 +32,7 @@ abbrev pub halt : ℕ → ℕ → Walk
 halt at n = record { entries = []; stop = at; number = n }
 
 abbrev pub step : ℕ → Found → (ℕ → Walk) → Walk
-step at (One r next) rest = onto (record { place = at; what = r; next = next }) (rest next)
+step at (One r next) rest = onto (entry at r next) (rest next)
 step at (Stop n) rest = halt at n
 step at End rest = halt at 0
 
