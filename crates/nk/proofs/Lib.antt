@@ -1,2 +1,4 @@
+pub mod Filling
 pub mod Laying
+pub mod Texts
 pub mod Turning

@@ -1,10 +1,6 @@
 // A journal run for as many records as a room has place for the lines of.
-ghost use mathlib.Core.Path.{_≡_};
-ghost use mathlib.Core.Bool.{true};
-ghost use Prim.Native.Nat.{_≤_, _<_};
-ghost use lib.ListN.{length, take};
 ghost use Rattle.steps.specs.Promise.{keeperOf};
-ghost use Rattle.nk.specs.Rest.{Laid};
+ghost use Rattle.nk.specs.Batches.{batchOf, Laid};
 use crate::output::lay;
 use ledger::Ledger;
 use replay::take_turn;
@@ -23,8 +19,8 @@ pub struct Batch {
     pub count: usize,
 }
 
-// Takes turns until the replay ends or a further line might not fit, and lays their lines one behind another. What the room then has, and
-// after it what is still to be written from the new position on, is what was to be written from the old one on.
+// Takes turns until the replay ends or a further line might not fit, and lays their lines one behind another at the room's start. What
+// stands behind them stays as it was.
 pub fn fill_room(
     j: &[u8],
     at: usize,
@@ -38,9 +34,7 @@ pub fn fill_room(
     generator: &mut [u32; 16],
     room: &mut [u8; 65536],
 ) -> Batch
-    ensures { λ r. ⌜ Laid (now (j .entry)) at (keeperOf l (now (clocks .entry)) (now (firsts .entry)) (now (seconds .entry)) (now (input .entry)) (now (blocking .entry)) (now (fast .entry)) (now (generator .entry))) (take (r .count) (now (room .exit))) (r .more) (r .at) (keeperOf (r .ledger) (now (clocks .exit)) (now (firsts .exit)) (now (seconds .exit)) (now (input .exit)) (now (blocking .exit)) (now (fast .exit)) (now (generator .exit))) ⌝ }
-    ensures { λ r. ⌜ r .count ≤ length (now (room .exit)) ⌝ }
-    ensures { λ r. ⌜ (r .more ≡ true → (at < r .at) × (r .at ≤ length (now (j .entry)))) ⌝ }
+    ensures { λ r. ⌜ Laid (batchOf (now (j .entry)) at (keeperOf l (now (clocks .entry)) (now (firsts .entry)) (now (seconds .entry)) (now (input .entry)) (now (blocking .entry)) (now (fast .entry)) (now (generator .entry)))) (keeperOf (r .ledger) (now (clocks .exit)) (now (firsts .exit)) (now (seconds .exit)) (now (input .exit)) (now (blocking .exit)) (now (fast .exit)) (now (generator .exit))) r (now (room .entry)) (now (room .exit)) ⌝ }
 {
     let mut out = [0u8; 4097];
     let mut line = [0u8; LONGEST_LINE];

@@ -3,9 +3,10 @@
 // `arguments` does what the program's words ask, `files` brings a journal into memory, `replaying` runs it and writes its transcript a room
 // at a time, `batches` fills the room, `output` lays and writes bytes, `messages` has what is said to a person, `status` what it all came to.
 //
-// No contract can say what is read or written. So the work is in functions that write nothing: `batches::fill_room` promises which bytes of
-// the transcript it has laid into the room and which are still to come, and the loop over it is shown to go from the journal's start to
-// its end. What is left to the eye is that the loop writes the room each time round.
+// No contract can say what is read or written. So the bytes of a transcript go out by one function, `replaying::hand_over`, whose contract
+// says which they are: the text of the journal that comes next, by a count that this function moves. proofs/Texts.antt shows that a journal's
+// texts, one behind another, are its transcript; and where standard output took all it was handed, all of them were handed over, each once
+// and in order. What is left to the eye is that `hand_over` writes what it is handed, and that nothing else in `replaying` writes or counts.
 mod arguments;
 mod batches;
 mod files;

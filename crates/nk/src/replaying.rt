@@ -1,4 +1,9 @@
 // A journal run from its first byte to its last, and its transcript written.
+ghost use mathlib.Core.Path.{_≡_};
+ghost use Prim.Native.Nat.{_+_};
+ghost use lib.ListN.{length};
+ghost use Rattle.journal.specs.Header.{headerOf};
+ghost use Rattle.nk.specs.Batches.{textsOf, Next};
 use crate::batches::ROOM;
 use crate::batches::fill_room;
 use crate::output::Sent;
@@ -26,19 +31,37 @@ fn blank_ledger() -> Ledger {
     }
 }
 
-// The transcript of a journal that has no records to run.
-fn refuse(number: u32) -> Sent {
-    let mut line = [0u8; 15];
-    let n = ending(number, &mut line);
-    write(&line[..n])
+// Hands the text of the transcript that comes next to standard output, and counts it. The journal is here for the contract, which says
+// that these bytes are that text. The count is moved here alone: where a text were left out or handed over twice, the next would not be
+// the one that the count says.
+fn hand_over(j: &[u8], done: &mut usize, text: &[u8]) -> Sent
+    requires { ⌜ Next (now j) (now done) (now text) ⌝ }
+    ensures { λ r. ⌜ now (done .exit) ≡ now (done .entry) + 1 ⌝ }
+{
+    *done += 1;
+    write(text)
 }
 
-// Runs a journal on a keeper made of its start bytes, and writes its transcript a room at a time for as long as standard output takes it.
-// What was written so far, and after it what is still to be written, is the journal's transcript.
-pub fn replay(j: &[u8]) -> Sent {
+// The transcript of a journal that has no records to run: one text, which has the header's number.
+fn refuse(j: &[u8], done: &mut usize, number: u32) -> Sent
+    requires { ⌜ now done ≡ 0 ⌝ }
+    requires { ⌜ (number ≡ headerOf (now j)) × (number ≡ 0 → ⊥) ⌝ }
+    ensures { λ r. ⌜ now (done .exit) ≡ length (textsOf (now (j .entry))) ⌝ }
+{
+    let mut line = [0u8; 15];
+    let n = ending(number, &mut line);
+    hand_over(j, done, &line[..n])
+}
+
+// Runs a journal on a keeper made of its start bytes, and hands its texts over one by one for as long as standard output takes them. Where
+// it took all that it was handed, it was handed all there are.
+fn hand_over_all(j: &[u8], done: &mut usize) -> Sent
+    requires { ⌜ now done ≡ 0 ⌝ }
+    ensures { λ r. ⌜ (r ≡ Sent.All → now (done .exit) ≡ length (textsOf (now (j .entry)))) ⌝ }
+{
     let refused = header(j);
     if refused != 0 {
-        return refuse(refused);
+        return refuse(j, done, refused);
     }
     let mut clocks = [0u32; 16];
     let mut firsts = [0i64; 16];
@@ -76,7 +99,7 @@ pub fn replay(j: &[u8]) -> Sent {
             &mut room,
         );
         let n = b.count;
-        let sent = write(&room[..n]);
+        let sent = hand_over(j, done, &room[..n]);
         let Sent::All = sent else {
             return sent;
         };
@@ -87,4 +110,10 @@ pub fn replay(j: &[u8]) -> Sent {
         l = next;
         at = b.at;
     }
+}
+
+// The transcript of a journal, written to standard output.
+pub fn replay(j: &[u8]) -> Sent {
+    let mut done: usize = 0;
+    hand_over_all(j, &mut done)
 }

@@ -37,7 +37,7 @@ unfoldable pub replayed : List ℕ → Keeper → Keeper
 replayed j k = pick (eqb (headerOf j) 0) (keeperAfter (fresh (startOf j)) (callsOf j)) k
 
 -- what n turns write, stopping where a turn says that there is no more
-abbrev pub ifMore : Bool → List ℕ → List ℕ
+abbrev pub ifMore : {A : Type 0} → Bool → List A → List A
 ifMore true l = l
 ifMore false l = []
 

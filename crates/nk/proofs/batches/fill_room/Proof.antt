@@ -1,10 +1,10 @@
 use mathlib.Core.Path.{refl, sym}
-use mathlib.Core.Bool.{true, false, false≢true}
+use mathlib.Core.Bool.{true, false}
 use Prim.Native.Nat.{_-_}
 use lib.ListN.{length}
 use borrow.Author.Tests.{not-false, not-true}
 use Rattle.steps.specs.Promise.{keeperOf}
-use Rattle.nk.proofs.Turning.{Filling, begun, goes-on, line-length, in-line, room-for, filled, within, moved, again}
+use Rattle.nk.proofs.Filling.{Filling, begun, goes-on, line-length, in-line, room-for, ended, full, again}
 use borrow.Author.Needs.{needs}
 use native.Mathlib.Omega.{arith}
 use Rattle.nk.proofs.batches.fill_room.Statement.{statement}
@@ -12,7 +12,7 @@ use Rattle.nk.proofs.batches.fill_room.Tie as tie
 
 abbrev Inv-loop : tie.InvT-loop
 Inv-loop j at clocks₀ firsts₀ seconds₀ input₀ blocking₀ fast₀ generator₀ room₀ out₀ line₀ ledger₀ place₀ count₀ clocks firsts seconds input blocking fast generator room out line ledger place count =
-    Filling j at (keeperOf ledger₀ clocks₀ firsts₀ seconds₀ input₀ blocking₀ fast₀ generator₀) place (keeperOf ledger clocks firsts seconds input blocking fast generator) count room line
+    Filling j at (keeperOf ledger₀ clocks₀ firsts₀ seconds₀ input₀ blocking₀ fast₀ generator₀) room₀ place (keeperOf ledger clocks firsts seconds input blocking fast generator) count room line
 
 abbrev μ-loop : tie.MeasureT-loop
 μ-loop j at clocks₀ firsts₀ seconds₀ input₀ blocking₀ fast₀ generator₀ room₀ out₀ line₀ ledger₀ place₀ count₀ clocks firsts seconds input blocking fast generator room out line ledger place count =
@@ -25,22 +25,63 @@ take-turn-requires : tie.Need-take-turn-requires Inv-loop μ-loop
 take-turn-requires c κs = search needs
 
 slice-aggregate-lay : tie.Need-slice-aggregate-lay Inv-loop μ-loop
-slice-aggregate-lay c = sym (line-length _ _ _ _ _ _ _ _ (c .before .before .before .before .before .before .before .before .before .before .before .loop .inv) _ _ _ _ _ (c .before .take-turn .ensures))
+slice-aggregate-lay c =
+    let turn : tie.After-take-turn Inv-loop μ-loop = search in
+    let at : tie.At-loop Inv-loop μ-loop = search in
+    sym (line-length _ _ _ _ _ _ _ _ _ (at .loop .inv) _ _ _ _ _ (turn .take-turn .ensures))
 
 lay-requires : tie.Need-lay-requires Inv-loop μ-loop
-lay-requires c κs = (in-line _ _ _ _ _ _ _ _ (c .before .before .before .before .before .before .before .before .before .before .before .before .loop .inv) _ _ _ _ _ (c .before .before .take-turn .ensures), room-for _ _ _ _ _ _ _ _ (c .before .before .before .before .before .before .before .before .before .before .before .before .loop .inv) _ _ _ _ _ (c .before .before .take-turn .ensures) (omega (arith, c .lay-arg .given .0 .1)))
+lay-requires c κs =
+    let turn : tie.After-take-turn Inv-loop μ-loop = search in
+    let at : tie.At-loop Inv-loop μ-loop = search in
+    let took = turn .take-turn .ensures in
+    let filling = at .loop .inv in
+    (in-line _ _ _ _ _ _ _ _ _ filling _ _ _ _ _ took, room-for _ _ _ _ _ _ _ _ _ filling _ _ _ _ _ took (omega (arith, c .lay-arg .given .0 .1)))
 
 returns : tie.Need-returns Inv-loop μ-loop
-returns c = (filled _ _ _ _ _ _ _ _ (c .before .before .before .before .before .before .before .before .before .before .before .before .before .before .before .loop .inv) _ _ _ _ _ (c .before .before .before .before .before .take-turn .ensures) (omega (arith, c .before .before .before .lay-arg .given .0 .1)) _ _ (c .before .before .lay .ensures) false (not-true _ (c .if1 .taken)), (within _ _ _ _ _ _ _ _ (c .before .before .before .before .before .before .before .before .before .before .before .before .before .before .before .loop .inv) _ _ _ _ _ (c .before .before .before .before .before .take-turn .ensures) (omega (arith, c .before .before .before .lay-arg .given .0 .1)) _ _ (c .before .before .lay .ensures), λ e. absurd (false≢true e)))
+returns c =
+    let no-more = c .if1 .taken in
+    let c : tie.After-lay Inv-loop μ-loop = search in
+    let laid = c .lay .ensures in
+    let c : tie.After-lay-arg Inv-loop μ-loop = search in
+    let roomy = c .lay-arg .given .0 .1 in
+    let c : tie.After-take-turn Inv-loop μ-loop = search in
+    let took = c .take-turn .ensures in
+    let c : tie.At-loop Inv-loop μ-loop = search in
+    ended _ _ _ _ _ _ _ _ _ (c .loop .inv) _ _ _ _ _ took (omega (arith, roomy)) _ _ laid (not-true _ no-more)
 
 returns-2 : tie.Need-returns-2 Inv-loop μ-loop
-returns-2 c = (filled _ _ _ _ _ _ _ _ (c .before .before .before .before .before .before .before .before .before .before .before .before .before .before .before .before .loop .inv) _ _ _ _ _ (c .before .before .before .before .before .before .take-turn .ensures) (omega (arith, c .before .before .before .before .lay-arg .given .0 .1)) _ _ (c .before .before .before .lay .ensures) true (not-false _ (c .before .if1 .left)), (within _ _ _ _ _ _ _ _ (c .before .before .before .before .before .before .before .before .before .before .before .before .before .before .before .before .loop .inv) _ _ _ _ _ (c .before .before .before .before .before .before .take-turn .ensures) (omega (arith, c .before .before .before .before .lay-arg .given .0 .1)) _ _ (c .before .before .before .lay .ensures), λ e. moved _ _ _ _ _ _ _ _ (c .before .before .before .before .before .before .before .before .before .before .before .before .before .before .before .before .loop .inv) _ _ _ _ _ (c .before .before .before .before .before .before .take-turn .ensures) (omega (arith, c .before .before .before .before .lay-arg .given .0 .1)) _ _ (c .before .before .before .lay .ensures) (not-false _ (c .before .if1 .left))))
+returns-2 c =
+    let more = c .before .if1 .left in
+    let room-full = c .if2 .taken in
+    let c : tie.After-lay Inv-loop μ-loop = search in
+    let laid = c .lay .ensures in
+    let c : tie.After-lay-arg Inv-loop μ-loop = search in
+    let roomy = c .lay-arg .given .0 .1 in
+    let c : tie.After-take-turn Inv-loop μ-loop = search in
+    let took = c .take-turn .ensures in
+    let c : tie.At-loop Inv-loop μ-loop = search in
+    full _ _ _ _ _ _ _ _ _ (c .loop .inv) _ _ _ _ _ took (omega (arith, roomy)) _ _ laid (not-false _ more) room-full
 
 loop-less : tie.Need-loop-less Inv-loop μ-loop
-loop-less c = let h = goes-on _ _ _ _ _ _ _ _ (c .before .before .before .before .before .before .before .before .before .before .before .before .before .before .before .before .loop .inv) _ _ _ _ _ (c .before .before .before .before .before .before .take-turn .ensures) (not-false _ (c .before .if1 .left)) in omega arith
+loop-less c =
+    let turn : tie.After-take-turn Inv-loop μ-loop = search in
+    let at : tie.At-loop Inv-loop μ-loop = search in
+    let h = goes-on _ _ _ _ _ _ _ _ _ (at .loop .inv) _ _ _ _ _ (turn .take-turn .ensures) (not-false _ (c .before .if1 .left)) in
+    omega arith
 
 loop-again : tie.Need-loop-again Inv-loop μ-loop
-loop-again c = again _ _ _ _ _ _ _ _ (c .before .before .before .before .before .before .before .before .before .before .before .before .before .before .before .before .loop .inv) _ _ _ _ _ (c .before .before .before .before .before .before .take-turn .ensures) (omega (arith, c .before .before .before .before .lay-arg .given .0 .1)) _ _ (c .before .before .before .lay .ensures) (not-false _ (c .before .if1 .left)) (c .if2 .left)
+loop-again c =
+    let more = c .before .if1 .left in
+    let room-left = c .if2 .left in
+    let c : tie.After-lay Inv-loop μ-loop = search in
+    let laid = c .lay .ensures in
+    let c : tie.After-lay-arg Inv-loop μ-loop = search in
+    let roomy = c .lay-arg .given .0 .1 in
+    let c : tie.After-take-turn Inv-loop μ-loop = search in
+    let took = c .take-turn .ensures in
+    let c : tie.At-loop Inv-loop μ-loop = search in
+    again _ _ _ _ _ _ _ _ _ (c .loop .inv) _ _ _ _ _ took (omega (arith, roomy)) _ _ laid (not-false _ more) room-left
 
 pub fill-room-spec : {M : Type 1} → statement M
 fill-room-spec =

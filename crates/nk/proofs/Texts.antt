@@ -1,0 +1,207 @@
+-- The texts that the program writes are the transcript in order, each of them once; and which one comes next. Assumes nothing.
+use mathlib.Core.Path.{_≡_, refl, sym, ap, _∙_}
+use mathlib.Core.Bool.{Bool, true, false}
+use mathlib.Core.List.{List, [], _∷_, _++_, flatten, append-assoc, append-nil}
+use Prim.Native.Nat.{ℕ, zero, suc, _+_, _-_, _≤_, _<_}
+use native.Mathlib.Nat.{add-zero}
+use native.Mathlib.Omega.{arith}
+use borrow.Author.Tests.{eqb-true, eqb-false, eq-eqb, ne-eqb, leb-true, leb-false, le-leb}
+use lib.Dec.{eqb, leb}
+use lib.ListN.{length, take, drop, getD, length-append, length-drop}
+use lib.Seq.{take-append-seam, getD-drop, drop-drop}
+use Rattle.ledger.specs.Choice.{pick}
+use Rattle.journal.specs.Header.{headerOf, startOf}
+use Rattle.journal.proofs.Laws.{start-48}
+use Rattle.transcript.specs.Lines.{Written, endOf, endIn, atStart}
+use Rattle.keeper.specs.Record.{Outcome, fresh}
+use Rattle.keeper.specs.declared.Keeper.{Keeper}
+use Rattle.keeper.specs.declared.Answer.{Answer}
+use Rattle.keeper.proofs.Refusals.{making-48}
+use Rattle.steps.specs.Promise.{Left, left, leavesMade}
+use Rattle.replay.specs.Turns.{turnOf}
+use Rattle.replay.specs.Whole.{ifMore, transcriptOf}
+use Rattle.replay.proofs.Transcribed.{untranscribed}
+use Rattle.nk.specs.declared.batches.Batch.{Batch}
+use Rattle.nk.specs.Batches.{Lines, turnsBehind, batchOf, batchesFrom, textsOf, Laid, Next}
+use Rattle.nk.proofs.Turning.{rest, ahead, next-line, whole}
+use Rattle.nk.proofs.Filling.{over, last-turn, full-turn, further-turn}
+
+-- ---- one batch: behind its lines, what is still to be written completes what was; and where there is more, it moves on within the journal
+record Behind (j : List ℕ) (at : ℕ) (k : Keeper) (text : List ℕ) (l : Lines) : Type 0 where
+  all : l .text ++ ifMore (l .more) (rest j (l .at) (l .keeper)) ≡ text ++ rest j at k
+  onward : l .more ≡ true → (at < l .at) × (l .at ≤ length j)
+
+-- a turn's line behind a text, and then the rest
+line-behind : (j : List ℕ) (at : ℕ) (k : Keeper) (text : List ℕ)
+    → (text ++ (turnOf j at k) .line) ++ ifMore ((turnOf j at k) .more) (rest j ((turnOf j at k) .at) ((turnOf j at k) .keeper)) ≡ text ++ rest j at k
+line-behind j at k text = append-assoc text _ _ ∙ ap (λ (l : List ℕ). text ++ l) (sym (next-line j at k))
+
+behind-over : (j : List ℕ) (at : ℕ) (k : Keeper) (text : List ℕ) → Behind j at k text (over j at k text)
+behind-over j at k text = record { all = line-behind j at k text; onward = ahead j at k }
+
+-- a turn, where the turns from the next position on are known
+a-turn : (n : ℕ) (j : List ℕ) (at : ℕ) (k : Keeper) (text : List ℕ)
+    → ((turnOf j at k) .more ≡ true → Behind j at k text (turnsBehind n j ((turnOf j at k) .at) ((turnOf j at k) .keeper) (text ++ (turnOf j at k) .line)))
+    → Behind j at k text (turnsBehind (suc n) j at k text)
+a-turn n j at k text on = by ((turnOf j at k) .more) (leb (length (text ++ (turnOf j at k) .line)) 57277) refl refl
+  where
+    by : (m f : Bool) → (turnOf j at k) .more ≡ m → leb (length (text ++ (turnOf j at k) .line)) 57277 ≡ f → Behind j at k text (turnsBehind (suc n) j at k text)
+    by false f e g = rw (last-turn n j at k text e) (behind-over j at k text)
+    by true false e g = rw (full-turn n j at k text (leb-false _ 57277 g)) (behind-over j at k text)
+    by true true e g = rw (further-turn n j at k text e (leb-true _ 57277 g)) (on e)
+
+behind : (n : ℕ) (j : List ℕ) (at : ℕ) (k : Keeper) (text : List ℕ) → length j < at + n → Behind j at k text (turnsBehind (suc n) j at k text)
+behind zero j at k text h = a-turn zero j at k text (λ e. absurd (let a = ahead j at k e in omega (arith, h, a .0, a .1)))
+behind (suc n) j at k text h =
+    a-turn (suc n) j at k text
+    (λ e. let a = ahead j at k e in
+    let b = behind n j ((turnOf j at k) .at) ((turnOf j at k) .keeper) (text ++ (turnOf j at k) .line) (omega (arith, h, a .0)) in
+    let l : (text ++ (turnOf j at k) .line) ++ rest j ((turnOf j at k) .at) ((turnOf j at k) .keeper) ≡ text ++ rest j at k = rw e at (line-behind j at k text) in
+    record { all = b .all ∙ l; onward = λ m. let o = b .onward m in (omega (arith, a .0, o .0), o .1) })
+
+batch : (j : List ℕ) (at : ℕ) (k : Keeper) → Behind j at k [] (batchOf j at k)
+unfolding batchOf
+batch j at k = behind (suc (length j)) j at k [] (omega arith)
+
+-- ---- all batches
+when-all : (b : Bool) (x : List (List ℕ)) (y : List ℕ) → (b ≡ true → flatten x ≡ y) → flatten (ifMore b x) ≡ ifMore b y
+unfolding flatten
+when-all true x y h = h refl
+when-all false x y h = refl
+
+from-on : (n : ℕ) (j : List ℕ) (at : ℕ) (k : Keeper) → length j < at + n → flatten (batchesFrom (suc n) j at k) ≡ rest j at k
+unfolding batchesFrom flatten
+from-on zero j at k h =
+    let b = batch j at k in
+    ap (λ (l : List ℕ). (batchOf j at k) .text ++ l) (when-all ((batchOf j at k) .more) _ _ (λ e. absurd (let o = b .onward e in omega (arith, h, o .0, o .1)))) ∙ b .all
+from-on (suc n) j at k h =
+    let b = batch j at k in
+    ap (λ (l : List ℕ). (batchOf j at k) .text ++ l) (when-all ((batchOf j at k) .more) _ _ (λ e. let o = b .onward e in from-on n j _ _ (omega (arith, h, o .0)))) ∙ b .all
+
+-- a good header, and another
+good : (j : List ℕ) → headerOf j ≡ 0 → textsOf j ≡ batchesFrom (suc (length j)) j 53 (fresh (startOf j))
+unfolding textsOf pick
+good j h = rw (eq-eqb (headerOf j) 0 h)
+
+bad : (j : List ℕ) → (headerOf j ≡ 0 → ⊥) → textsOf j ≡ endOf (headerOf j) ∷ []
+unfolding textsOf pick
+bad j h = rw (ne-eqb (headerOf j) 0 h)
+
+-- THE TEXTS, one behind another, are the transcript
+pub transcript-in-texts : (j : List ℕ) → flatten (textsOf j) ≡ transcriptOf j
+unfolding flatten
+transcript-in-texts j = by (eqb (headerOf j) 0) refl
+  where
+    by : (b : Bool) → eqb (headerOf j) 0 ≡ b → flatten (textsOf j) ≡ transcriptOf j
+    by true e = let h = eqb-true (headerOf j) 0 e in ap flatten (good j h) ∙ from-on (length j) j 53 (fresh (startOf j)) (omega arith) ∙ whole j h
+    by false e = let h = eqb-false (headerOf j) 0 e in ap flatten (bad j h) ∙ append-nil _ ∙ sym (untranscribed j h)
+
+-- ---- there are no more texts than bytes
+fewer : (b : Bool) (x : List (List ℕ)) (m : ℕ) → (b ≡ true → length x ≤ m) → length (ifMore b x) ≤ m
+fewer true x m h = h refl
+fewer false x m h = omega arith
+
+few-from : (n : ℕ) (j : List ℕ) (at : ℕ) (k : Keeper) → length (batchesFrom n j at k) ≤ 1 + (length j - at)
+unfolding batchesFrom
+few-from zero j at k = omega arith
+few-from (suc n) j at k =
+    let f = fewer ((batchOf j at k) .more) (batchesFrom n j ((batchOf j at k) .at) ((batchOf j at k) .keeper)) (length j - at)
+    (λ e. let o = (batch j at k) .onward e in omega (arith, o .0, o .1, few-from n j ((batchOf j at k) .at) ((batchOf j at k) .keeper))) in
+    omega (arith, f)
+
+pub few-texts : (j : List ℕ) → length (textsOf j) ≤ 1 + (length j - 53)
+few-texts j = by (eqb (headerOf j) 0) refl
+  where
+    by : (b : Bool) → eqb (headerOf j) 0 ≡ b → length (textsOf j) ≤ 1 + (length j - 53)
+    by true e = rw (good j (eqb-true (headerOf j) 0 e)) (few-from (suc (length j)) j 53 (fresh (startOf j)))
+    by false e = omega (arith, ap length (bad j (eqb-false (headerOf j) 0 e)))
+
+-- ---- the next text
+-- the texts from one on
+from-this : (j : List ℕ) (done : ℕ) (text : List ℕ) (more : List (List ℕ)) → drop done (textsOf j) ≡ text ∷ more → Next j done text
+from-this j done text more e =
+    record {
+      left = omega (arith, ap length e, length-drop done (textsOf j));
+      this = sym (ap (λ (l : List (List ℕ)). getD l 0 []) e) ∙ getD-drop done (textsOf j) 0 [] ∙ ap (λ (n : ℕ). getD (textsOf j) n []) (add-zero done);
+    }
+
+-- so many texts were handed over, and those from here on are the ones that are left
+pub record Told (j : List ℕ) (done at : ℕ) (k : Keeper) : Type 0 where
+  pub turns : ℕ
+  pub enough : length j < at + turns
+  pub left : drop done (textsOf j) ≡ batchesFrom (suc turns) j at k
+
+pub told-none : (j : List ℕ) (k k′ : Keeper) (a : Answer) (start : List ℕ) (done n : ℕ) → done ≡ 0 → n ≡ headerOf j → n ≡ 0 → start ≡ take 48 (drop 5 j)
+    → left k′ a [] ≡ leavesMade k start → Told j done 53 k′
+unfolding leavesMade startOf
+told-none j k k′ a start done n d e z es l =
+    let h : headerOf j ≡ 0 = sym e ∙ z in
+    let long : length start ≡ 48 = ap length es ∙ start-48 j h in
+    let made : k′ ≡ fresh start = ap (λ (x : Left). x .keeper) l ∙ ap (λ (o : Outcome). o .keeper) (making-48 start k long) in
+    record {
+      turns = length j;
+      enough = omega arith;
+      left = ap (λ (m : ℕ). drop m (textsOf j)) d ∙ good j h ∙ ap (batchesFrom (suc (length j)) j 53) (sym (made ∙ ap fresh es));
+    }
+
+module _ (j : List ℕ) (done at : ℕ) (k : Keeper) (t : Told j done at k) (k′ : Keeper) (b : Batch) (room room′ : List ℕ) (laid : Laid (batchOf j at k) k′ b room room′) where
+  -- this batch's text and those behind it
+  these : drop done (textsOf j) ≡ (batchOf j at k) .text ∷ ifMore ((batchOf j at k) .more) (batchesFrom (t .turns) j ((batchOf j at k) .at) ((batchOf j at k) .keeper))
+  unfolding batchesFrom
+  these = t .left
+
+  pub in-room : b .count ≤ length room′
+  in-room = omega (arith, laid .count, ap length (laid .written), length-append ((batchOf j at k) .text) (drop (length ((batchOf j at k) .text)) room))
+
+  text-is : take (b .count) room′ ≡ (batchOf j at k) .text
+  text-is =
+      ap (λ (n : ℕ). take n room′) (laid .count) ∙ ap (λ (x : List ℕ). take (length ((batchOf j at k) .text)) x) (laid .written)
+      ∙ take-append-seam ((batchOf j at k) .text) _
+
+  pub next-text : Next j done (take (b .count) room′)
+  next-text = rw text-is (from-this j done _ _ these)
+
+  pub goes-on : b .more ≡ true → (at < b .at) × (b .at ≤ length j)
+  goes-on e = let o = (batch j at k) .onward (sym (laid .more) ∙ e) in let p = laid .at in (omega (arith, o .0), omega (arith, o .1))
+
+  pub told-more : b .more ≡ true → Told j (done + 1) (b .at) k′
+  unfolding batchesFrom
+  told-more e = by (t .turns) (t .enough) (t .left)
+    where
+      by : (n : ℕ) → length j < at + n → drop done (textsOf j) ≡ batchesFrom (suc n) j at k → Told j (done + 1) (b .at) k′
+      by zero p q = absurd (let o = goes-on e in omega (arith, p, o .0, o .1))
+      by (suc n) p q =
+          let o = goes-on e in
+          let m : (batchOf j at k) .more ≡ true = sym (laid .more) ∙ e in
+          let tail : drop (done + 1) (textsOf j) ≡ ifMore ((batchOf j at k) .more) (batchesFrom (suc n) j ((batchOf j at k) .at) ((batchOf j at k) .keeper)) =
+          sym (drop-drop 1 done (textsOf j)) ∙ ap (drop 1) q in
+          record {
+            turns = n;
+            enough = omega (arith, p, o .0);
+            left = rw m at tail ∙ (λ i. batchesFrom (suc n) j (sym (laid .at) i) (sym (laid .keeper) i));
+          }
+
+  -- where there is no more, this was the last
+  pub told-all : b .more ≡ false → done + 1 ≡ length (textsOf j)
+  told-all e =
+      let m : (batchOf j at k) .more ≡ false = sym (laid .more) ∙ e in
+      let one : drop done (textsOf j) ≡ (batchOf j at k) .text ∷ [] = rw m at these in
+      omega (arith, ap length one, length-drop done (textsOf j))
+
+-- ---- a journal without records has one text
+-- a last line that fitted its room
+end-of-room : (room b : List ℕ) (n number : ℕ) → 15 ≤ length room → _≡_ {A = Written} (record { count = n; room = b }) (endIn room number) → take n b ≡ endOf number
+unfolding endIn atStart
+end-of-room room b n number h e =
+    let w : _≡_ {A = Written} (record { count = n; room = b }) (atStart room (endOf number)) = rw (le-leb 15 (length room) h) at e in
+    ap (λ (x : Written). take (x .count) (x .room)) w ∙ take-append-seam (endOf number) _
+
+module _ (j : List ℕ) (done number : ℕ) (d : done ≡ 0) (e : number ≡ headerOf j) (h : number ≡ 0 → ⊥) where
+  one-text : drop done (textsOf j) ≡ endOf number ∷ []
+  one-text = ap (λ (m : ℕ). drop m (textsOf j)) d ∙ bad j (λ z. h (e ∙ z)) ∙ ap (λ (m : ℕ). endOf m ∷ []) (sym e)
+
+  pub only-text : (room b : List ℕ) (n : ℕ) → 15 ≤ length room → _≡_ {A = Written} (record { count = n; room = b }) (endIn room number) → Next j done (take n b)
+  only-text room b n f w = rw (end-of-room room b n number f w) (from-this j done _ _ one-text)
+
+  pub only-one : done + 1 ≡ length (textsOf j)
+  only-one = omega (arith, ap length one-text, length-drop done (textsOf j))

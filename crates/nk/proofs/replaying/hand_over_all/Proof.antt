@@ -1,0 +1,140 @@
+use mathlib.Core.Path.{sym, _∙_}
+use mathlib.Core.List.{[], _∷_}
+use Prim.Native.Nat.{_-_}
+use types.Run.{miss}
+use lib.ListN.{length}
+use lib.Seq.{length-take-le}
+use borrow.Author.Tests.{not-false, not-true}
+use Rattle.steps.specs.Promise.{keeperOf}
+use Rattle.nk.proofs.Texts.{Told, told-none, in-room, next-text, goes-on, told-more, told-all}
+use borrow.Author.Needs.{needs}
+use native.Mathlib.Omega.{arith}
+use Rattle.nk.proofs.replaying.hand_over_all.Statement.{statement}
+use Rattle.nk.proofs.replaying.hand_over_all.Tie as tie
+
+abbrev Inv-loop : tie.InvT-loop
+Inv-loop j done₀ refused clocks₀ firsts₀ seconds₀ input₀ blocking₀ fast₀ generator₀ l₀ at₀ room₀ done clocks firsts seconds input blocking fast generator l at room =
+    Told j done at (keeperOf l clocks firsts seconds input blocking fast generator)
+
+abbrev μ-loop : tie.MeasureT-loop
+μ-loop j done₀ refused clocks₀ firsts₀ seconds₀ input₀ blocking₀ fast₀ generator₀ l₀ at₀ room₀ done clocks firsts seconds input blocking fast generator l at room =
+    length j - at
+
+header-requires : tie.Need-header-requires Inv-loop μ-loop
+header-requires c κs = search needs
+
+refuse-requires : tie.Need-refuse-requires Inv-loop μ-loop
+refuse-requires c κs =
+    let c : tie.Then1 Inv-loop μ-loop = search in
+    let wrong = c .if1 .taken in
+    let c : tie.After-header Inv-loop μ-loop = search in
+    let number = c .header .ensures in
+    let c : tie.Start Inv-loop μ-loop = search in
+    (c .pre, (number, wrong))
+
+returns : tie.Need-returns Inv-loop μ-loop
+returns c = λ e. c .refuse .ensures
+
+blank-ledger-requires : tie.Need-blank-ledger-requires Inv-loop μ-loop
+blank-ledger-requires c κs = search needs
+
+payload-requires : tie.Need-payload-requires Inv-loop μ-loop
+payload-requires c κs = search needs
+
+make-on-requires : tie.Need-make-on-requires Inv-loop μ-loop
+make-on-requires c κs = search needs
+
+loop-holds : tie.Need-loop-holds Inv-loop μ-loop
+loop-holds c =
+    let c : tie.After-make-on Inv-loop μ-loop = search in
+    let made = c .make-on .ensures in
+    let c : tie.After-payload Inv-loop μ-loop = search in
+    let start = c .payload .ensures in
+    let c : tie.Else1 Inv-loop μ-loop = search in
+    let good = c .if1 .left in
+    let c : tie.After-header Inv-loop μ-loop = search in
+    let number = c .header .ensures in
+    let c : tie.Start Inv-loop μ-loop = search in
+    told-none _ _ _ _ _ _ _ (c .pre) number good start made
+
+fill-room-requires : tie.Need-fill-room-requires Inv-loop μ-loop
+fill-room-requires c κs = search needs
+
+array-share-prefix-room : tie.Need-array-share-prefix-room Inv-loop μ-loop
+array-share-prefix-room c =
+    let c : tie.After-fill-room Inv-loop μ-loop = search in
+    let laid = c .fill-room .ensures in
+    let c : tie.At-loop Inv-loop μ-loop = search in
+    in-room _ _ _ _ (c .loop .inv) _ _ _ _ laid
+
+slice-aggregate-hand-over : tie.Need-slice-aggregate-hand-over Inv-loop μ-loop
+slice-aggregate-hand-over c =
+    let c : tie.After-fill-room Inv-loop μ-loop = search in
+    let laid = c .fill-room .ensures in
+    let c : tie.At-loop Inv-loop μ-loop = search in
+    sym (length-take-le _ _ (in-room _ _ _ _ (c .loop .inv) _ _ _ _ laid))
+
+hand-over-requires : tie.Need-hand-over-requires Inv-loop μ-loop
+hand-over-requires c κs =
+    let c : tie.After-fill-room Inv-loop μ-loop = search in
+    let laid = c .fill-room .ensures in
+    let c : tie.At-loop Inv-loop μ-loop = search in
+    next-text _ _ _ _ (c .loop .inv) _ _ _ _ laid
+
+enum-told : tie.Need-enum-told Inv-loop μ-loop
+enum-told c = search needs
+
+returns-2 : tie.Need-returns-2 Inv-loop μ-loop
+returns-2 c = λ e. absurd (miss (1 ∷ 2 ∷ []) 0 tt (rw e at (c .match .keys2)))
+
+returns-3 : tie.Need-returns-3 Inv-loop μ-loop
+returns-3 c =
+    let last = c .if2 .taken in
+    let c : tie.After-hand-over Inv-loop μ-loop = search in
+    let over = c .hand-over .ensures in
+    let c : tie.After-fill-room Inv-loop μ-loop = search in
+    let laid = c .fill-room .ensures in
+    let c : tie.At-loop Inv-loop μ-loop = search in
+    λ e. over ∙ told-all _ _ _ _ (c .loop .inv) _ _ _ _ laid (not-true _ last)
+
+loop-less : tie.Need-loop-less Inv-loop μ-loop
+loop-less c =
+    let more = c .before .if2 .left in
+    let c : tie.After-fill-room Inv-loop μ-loop = search in
+    let laid = c .fill-room .ensures in
+    let c : tie.At-loop Inv-loop μ-loop = search in
+    let h = goes-on _ _ _ _ (c .loop .inv) _ _ _ _ laid (not-false _ more) in
+    omega (arith, h .0, h .1)
+
+loop-again : tie.Need-loop-again Inv-loop μ-loop
+loop-again c =
+    let more = c .before .if2 .left in
+    let c : tie.After-hand-over Inv-loop μ-loop = search in
+    let over = c .hand-over .ensures in
+    let c : tie.After-fill-room Inv-loop μ-loop = search in
+    let laid = c .fill-room .ensures in
+    let c : tie.At-loop Inv-loop μ-loop = search in
+    rw over (told-more _ _ _ _ (c .loop .inv) _ _ _ _ laid (not-false _ more))
+
+pub hand-over-all-spec : {M : Type 1} → statement M
+hand-over-all-spec =
+    tie.close
+    (tie.spec
+    Inv-loop
+    μ-loop
+    header-requires
+    refuse-requires
+    returns
+    blank-ledger-requires
+    payload-requires
+    make-on-requires
+    loop-holds
+    fill-room-requires
+    array-share-prefix-room
+    slice-aggregate-hand-over
+    hand-over-requires
+    enum-told
+    returns-2
+    returns-3
+    loop-less
+    loop-again)

@@ -1,0 +1,61 @@
+-- A journal's transcript as the program writes it: in texts, one a write, each as many lines as a room of 65,536 bytes takes.
+use mathlib.Core.Bool.{Bool, true, false}
+use mathlib.Core.Path.{_≡_}
+use mathlib.Core.List.{List, [], _∷_, _++_}
+use Prim.Native.Nat.{ℕ, zero, suc, _+_, _<_}
+use lib.Dec.{leb, eqb}
+use lib.ListN.{length, drop, getD}
+use Rattle.ledger.specs.Choice.{pick}
+use Rattle.journal.specs.Header.{headerOf, startOf}
+use Rattle.transcript.specs.Lines.{endOf}
+use Rattle.keeper.specs.Record.{fresh}
+use Rattle.keeper.specs.declared.Keeper.{Keeper}
+use Rattle.replay.specs.Turns.{turnOf}
+use Rattle.replay.specs.Whole.{ifMore}
+use Rattle.nk.specs.declared.batches.Batch.{Batch}
+
+-- what a batch is: its lines, and the keeper, the position and whether there is more behind them
+pub record Lines : Type 0 where
+  pub keeper : Keeper
+  pub at : ℕ
+  pub more : Bool
+  pub text : List ℕ
+
+-- turns whose lines come behind a text, until the replay ends or the lines are more than 57,277 bytes: up to that many, the longest line,
+-- of 8,259, still fits a room of 65,536. n turns at most
+unfoldable pub turnsBehind : ℕ → List ℕ → ℕ → Keeper → List ℕ → Lines
+turnsBehind zero j at k text = record { keeper = k; at = at; more = false; text = text }
+turnsBehind (suc n) j at k text =
+    let a = turnOf j at k in
+    let lines = text ++ a .line in
+    let on = turnsBehind n j (a .at) (a .keeper) lines in
+    let over : Lines = record { keeper = a .keeper; at = a .at; more = a .more; text = lines } in
+    pick (a .more) (pick (leb (length lines) 57277) on over) over
+
+-- the batch at a position, on a keeper as it is there. No journal has more turns than bytes, but for the last
+unfoldable pub batchOf : List ℕ → ℕ → Keeper → Lines
+batchOf j at k = turnsBehind (suc (suc (length j))) j at k []
+
+-- the texts of n batches one after another, stopping where one says that there is no more
+unfoldable pub batchesFrom : ℕ → List ℕ → ℕ → Keeper → List (List ℕ)
+batchesFrom zero j at k = []
+batchesFrom (suc n) j at k =
+    let b = batchOf j at k in b .text ∷ ifMore (b .more) (batchesFrom n j (b .at) (b .keeper))
+
+-- THE TEXTS of a journal, in the order in which they are written. proofs/Texts.antt shows that one behind another they are its transcript
+unfoldable pub textsOf : List ℕ → List (List ℕ)
+textsOf j =
+    pick (eqb (headerOf j) 0) (batchesFrom (suc (length j)) j 53 (fresh (startOf j))) (endOf (headerOf j) ∷ [])
+
+-- what the code hands back of a batch, and what then stands in the room: the text, and behind it what stood there before
+pub record Laid (b : Lines) (k : Keeper) (r : Batch) (room room′ : List ℕ) : Type 0 where
+  pub keeper : k ≡ b .keeper
+  pub at : r .at ≡ b .at
+  pub more : r .more ≡ b .more
+  pub count : r .count ≡ length (b .text)
+  pub written : room′ ≡ b .text ++ drop (length (b .text)) room
+
+-- a text is the one that comes next, where so many were handed over
+pub record Next (j : List ℕ) (done : ℕ) (text : List ℕ) : Type 0 where
+  pub left : done < length (textsOf j)
+  pub this : text ≡ getD (textsOf j) done []
