@@ -81,9 +81,9 @@ cut-first n j good = side (ltb n 53) refl
         ∙ ap (take (length (upTo n (walkOf j .entries)))) (sym (records-walked j))
 
 -- SALVAGE: cut where its walk stops, a journal with a good header has all its records, and ends with 0
-pub salvaged : (j : List ℕ) → headerOf j ≡ 0 → walkOf (take (walkOf j .stop) j) ≡ record { entries = walkOf j .entries; stop = walkOf j .stop; number = 0 }
+pub salvaged-walk : (j : List ℕ) → headerOf j ≡ 0 → walkOf (take (walkOf j .stop) j) ≡ record { entries = walkOf j .entries; stop = walkOf j .stop; number = 0 }
 unfolding cutWalk cutNumber pick
-salvaged j good =
+salvaged-walk j good =
     let w = good-walk j good in
     let s = walk j 53 .stop in
     let c : walkOf (take s j) ≡ cutWalk s j 53 (walk j 53) = rw w at (cut-behind s j good (stops-ahead j 53)) in

@@ -1,3 +1,4 @@
+pub mod Vectors
 pub mod Parts
 pub mod Onward
 pub mod Cut
@@ -7,4 +8,3 @@ pub mod Told
 pub mod Walks
 pub mod CutWalks
 pub mod CutJournals
-pub mod Vectors

@@ -73,7 +73,7 @@ module _ (j : List ℕ) where
   bad-walk h = rw (ne-eqb (headerOf j) 0 h) refl
 
 -- ---- the number and the records are read off the walk
-ending-from : (f : ℕ) (j : List ℕ) (at : ℕ) → endingFrom f j at ≡ walkFrom f j at .number
+pub ending-from : (f : ℕ) (j : List ℕ) (at : ℕ) → endingFrom f j at ≡ walkFrom f j at .number
 unfolding endingFrom walkFrom
 ending-from zero j at = refl
 ending-from (suc f) j at = by (readAt j at) refl (λ next. ending-from f j next)
@@ -83,7 +83,7 @@ ending-from (suc f) j at = by (readAt j at) refl (λ next. ending-from f j next)
     by (Stop n) e on = rw e refl
     by End e on = rw e refl
 
-records-from : (f : ℕ) (j : List ℕ) (at : ℕ) → recordsFrom f j at ≡ recordsIn (walkFrom f j at)
+pub records-from : (f : ℕ) (j : List ℕ) (at : ℕ) → recordsFrom f j at ≡ recordsIn (walkFrom f j at)
 unfolding recordsFrom walkFrom
 records-from zero j at = refl
 records-from (suc f) j at = by (readAt j at) refl (λ next. records-from f j next)

@@ -20,7 +20,7 @@ use Rattle.journal.proofs.Laws.{write-cut, seed-cut, start-cut}
 use Rattle.journal.proofs.GoodHeader.{header-cut, header-kept}
 use Rattle.journal.proofs.Walks.{along, walk-one, walk-stop, walk-end, good-walk, bad-walk, ending-walked, records-walked}
 use Rattle.journal.proofs.CutWalks.{stops-ahead}
-use Rattle.journal.proofs.CutJournals.{map-take, cut-records, cut-ending, cut-first, salvaged}
+use Rattle.journal.proofs.CutJournals.{map-take, cut-records, cut-ending, cut-first, salvaged-walk}
 use Rattle.transcript.specs.Lines.{endOf}
 use Rattle.keeper.specs.Record.{Outcome, fresh}
 use Rattle.keeper.specs.Calls.{Call}
@@ -29,7 +29,7 @@ use Rattle.keeper.specs.Demands.{outcomes, keeperAfter}
 use Rattle.keeper.specs.declared.Keeper.{Keeper}
 use Rattle.replay.specs.Running.{callOf}
 use Rattle.replay.specs.Whole.{callsOf, outcomesOf, linesOf, transcriptOf, replayed}
-use Rattle.replay.specs.Cutting.{callsWithin, outcomesWithin, transcriptWithin, replayedWithin}
+use Rattle.replay.specs.Cutting.{callsWithin, outcomesWithin, transcriptWithin, replayedWithin, Saved}
 
 -- ---- a record that is read of the cut journal is the same call
 same-call : (n : ℕ) (j : List ℕ) (at : ℕ) (r : Record) (next : ℕ) → readAt (take n j) at ≡ One r next → callOf (take n j) r ≡ callOf j r
@@ -110,28 +110,31 @@ cut-keeps n j good =
     ∙ ap (outcomes k) (map-take (callOf j) m (recordsOf j))
     ∙ first-outcomes k m (callsOf j)
 
--- SALVAGE: a journal with a good header, cut where its walk stops, has the very lines of the whole, then the end of a whole journal, and leaves the
--- same keeper
+-- ---- cut where its walk stops
 module _ (j : List ℕ) (good : headerOf j ≡ 0) where
   abbrev saved : List ℕ
   saved = take (walkOf j .stop) j
 
   saved-records : recordsOf saved ≡ recordsOf j
-  saved-records = records-walked saved ∙ ap recordsIn (salvaged j good) ∙ sym (records-walked j)
+  saved-records = records-walked saved ∙ ap recordsIn (salvaged-walk j good) ∙ sym (records-walked j)
 
   saved-good : headerOf saved ≡ 0
   saved-good = header-kept (walkOf j .stop) j (rw (good-walk j good) (stops-ahead j 53)) good
 
-  pub salvaged-transcript : transcriptOf (take (walkOf j .stop) j) ≡ linesOf (outcomesOf j) ++ endOf 0
+  saved-transcript : transcriptOf saved ≡ linesOf (outcomesOf j) ++ endOf 0
   unfolding transcriptOf
-  salvaged-transcript =
+  saved-transcript =
       ap₂ (λ (os : List Outcome) (m : ℕ). linesOf os ++ endOf m)
       (own-outcomes (walkOf j .stop) j ∙ ap (λ (rs : List Record). outcomes (fresh (startOf j)) (map (callOf j) rs)) saved-records)
-      (ending-walked saved ∙ ap (λ (w : Walk). w .number) (salvaged j good))
+      (ending-walked saved ∙ ap (λ (w : Walk). w .number) (salvaged-walk j good))
 
-  pub salvaged-keeper : (k : Keeper) → replayed (take (walkOf j .stop) j) k ≡ replayed j k
+  saved-keeper : (k : Keeper) → replayed saved k ≡ replayed j k
   unfolding replayed pick
-  salvaged-keeper k =
+  saved-keeper k =
       rw (eq-eqb (headerOf saved) 0 saved-good, eq-eqb (headerOf j) 0 good)
       (ap₂ (λ (s : List ℕ) (cs : List Call). keeperAfter (fresh s) cs) (start-cut (walkOf j .stop) j saved-good)
       (own-calls (walkOf j .stop) j ∙ ap (map (callOf j)) saved-records))
+
+  -- SALVAGE: nothing is lost of a journal with a good header that is cut where its walk stops
+  pub salvaged : Saved j (take (walkOf j .stop) j)
+  salvaged = record { transcript = saved-transcript; keeper = saved-keeper }
