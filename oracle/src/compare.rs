@@ -161,11 +161,14 @@ fn report_shrunk(
     journal: &[u8],
     out: &mut dyn Write,
 ) -> io::Result<()> {
-    let Some(small) = shrink(program, journal, settings.batch as usize)? else {
-        return writeln!(
-            out,
-            "  alone it does not differ: no smaller one was looked for"
-        );
+    let small = match shrink(program, journal, settings.batch as usize)? {
+        Some(small) => small,
+        None => {
+            return writeln!(
+                out,
+                "  alone it does not differ: no smaller one was looked for"
+            )
+        }
     };
     let expected = transcript(&small);
     let found = program.run(std::slice::from_ref(&small))?;
@@ -221,8 +224,9 @@ fn first_difference(expected: &str, found: &[u8]) -> String {
 /// The part of a line that is worth showing.
 fn window(line: Option<&str>, column: usize) -> String {
     const WIDTH: usize = 120;
-    let Some(line) = line else {
-        return "(no line)".to_owned();
+    let line = match line {
+        Some(line) => line,
+        None => return "(no line)".to_owned(),
     };
     let from = if column < WIDTH { 0 } else { column - 40 };
     let shown: String = line.chars().skip(from).take(WIDTH).collect();

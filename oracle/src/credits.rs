@@ -23,7 +23,10 @@ pub fn estimate(d1: i64, d2: i64, d3: i64) -> u32 {
 }
 
 fn worth(least: u64) -> u32 {
-    least.checked_ilog2().unwrap_or(0).min(CAP)
+    match least {
+        0 => 0,
+        _ => (u64::BITS - 1 - least.leading_zeros()).min(CAP),
+    }
 }
 
 /// The count after crediting `bits` to a pool of this size.

@@ -59,12 +59,21 @@ pub fn open(journal: &[u8]) -> Result<(&[u8], Records<'_>), u8> {
         return Err(TOO_LARGE);
     }
     let rest = journal.strip_prefix(&MARK).ok_or(WRONG_MARK)?;
-    let (version, rest) = rest.split_first_chunk().ok_or(CUT_SHORT)?;
-    if u16::from_le_bytes(*version) != VERSION {
+    let (version, rest) = split(rest, 2)?;
+    if version != VERSION.to_le_bytes() {
         return Err(WRONG_VERSION);
     }
-    let (start, rest) = rest.split_at_checked(START).ok_or(CUT_SHORT)?;
+    let (start, rest) = split(rest, START)?;
     Ok((start, Records::new(rest)))
+}
+
+/// The first bytes of a part of the journal and what comes after them, or
+/// the number for a journal cut short where there are not so many.
+fn split(part: &[u8], length: usize) -> Result<(&[u8], &[u8]), u8> {
+    if length > part.len() {
+        return Err(CUT_SHORT);
+    }
+    Ok(part.split_at(length))
 }
 
 /// The records of a journal in their order. An `Err` holds the number that
@@ -105,9 +114,11 @@ struct Fields<'a> {
 
 impl<'a> Fields<'a> {
     fn take<const N: usize>(&mut self) -> Result<[u8; N], u8> {
-        let (field, rest) = self.rest.split_first_chunk().ok_or(CUT_SHORT)?;
+        let (bytes, rest) = split(self.rest, N)?;
         self.rest = rest;
-        Ok(*field)
+        let mut field = [0; N];
+        field.copy_from_slice(bytes);
+        Ok(field)
     }
 
     fn u8(&mut self) -> Result<u8, u8> {
@@ -133,7 +144,7 @@ impl<'a> Fields<'a> {
         if length > LONGEST {
             return Err(TOO_LONG);
         }
-        let (bytes, rest) = self.rest.split_at_checked(length).ok_or(CUT_SHORT)?;
+        let (bytes, rest) = split(self.rest, length)?;
         self.rest = rest;
         Ok(Cow::Borrowed(bytes))
     }

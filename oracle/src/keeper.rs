@@ -122,9 +122,9 @@ impl Keeper {
         if !self.in_range() {
             return Answer::refusal(OUT_OF_RANGE);
         }
-        let Some(&last) = self.timers.get(usize::from(device)) else {
+        if usize::from(device) >= DEVICES {
             return Answer::refusal(NO_DEVICE);
-        };
+        }
         if device == 0 {
             if value == self.last_value {
                 return Answer::refusal(REPEATED);
@@ -135,10 +135,11 @@ impl Keeper {
         self.input.mix(&now.to_le_bytes());
         self.input.mix(&value.to_le_bytes());
 
-        let d1 = clock_difference(now, last.clock);
-        let d2 = d1 - last.d1;
-        let d3 = d2 - last.d2;
-        self.timers[usize::from(device)] = Timer { clock: now, d1, d2 };
+        let timer = &mut self.timers[usize::from(device)];
+        let d1 = clock_difference(now, timer.clock);
+        let d2 = d1 - timer.d1;
+        let d3 = d2 - timer.d2;
+        *timer = Timer { clock: now, d1, d2 };
         Answer::worked(self.credit_input(estimate(d1, d2, d3), now))
     }
 
@@ -219,7 +220,7 @@ impl Keeper {
             block = self.next_block();
             answer.blocks += 1;
             part.copy_from_slice(&cipher::bytes(&block)[..part.len()]);
-            used = part.len().div_ceil(4);
+            used = (part.len() + 3) / 4;
         }
         // The key changes after every read, by words nobody was given: those
         // left in the last block, or a whole new block's where too few are.
@@ -308,6 +309,11 @@ impl Keeper {
     }
 }
 
+/// The fewest bytes that a seed of this many bits may have.
+pub fn least_bytes(bits: u32) -> usize {
+    (bits as usize + 7) / 8
+}
+
 fn low(number: u64) -> u32 {
     number as u32
 }
@@ -340,7 +346,7 @@ mod tests {
     /// A keeper after one seed call that names this many bits.
     fn after_credit(bits: u32) -> (Keeper, Answer) {
         let mut keeper = fresh();
-        let bytes = vec![0x5a; (bits as usize).div_ceil(8)];
+        let bytes = vec![0x5a; least_bytes(bits)];
         let answer = keeper.seed(7, &bytes, bits);
         (keeper, answer)
     }
@@ -492,6 +498,18 @@ mod tests {
         assert_eq!((keeper.tally, keeper.last_spill), (0, 1_001));
         keeper.interrupt(0, 1, 2, 3);
         assert_eq!((keeper.tally, keeper.last_spill), (1, 1_001));
+    }
+
+    #[test]
+    fn a_seed_may_have_no_fewer_bytes_than_its_bits_need() {
+        for (bits, bytes) in [(0, 0), (1, 1), (8, 1), (9, 2), (171, 22)] {
+            assert_eq!(least_bytes(bits), bytes);
+            assert_eq!(fresh().seed(0, &vec![0; bytes], bits).number, DONE);
+            if bytes > 0 {
+                let fewer = vec![0; bytes - 1];
+                assert_eq!(fresh().seed(0, &fewer, bits).number, TOO_MUCH_CREDIT);
+            }
+        }
     }
 
     #[test]

@@ -108,10 +108,11 @@ fn run(words: &[String], out: &mut dyn Write) -> Result<bool, String> {
             Ok(true)
         }
         "make" => {
-            let [folder] = &options.others[..] else {
-                return Err(USAGE.to_owned());
+            let folder = match &options.others[..] {
+                [folder] => Path::new(folder),
+                _ => return Err(USAGE.to_owned()),
             };
-            make(&options, Path::new(folder)).map_err(text)?;
+            make(&options, folder).map_err(text)?;
             Ok(true)
         }
         "compare" => {

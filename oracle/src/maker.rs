@@ -8,7 +8,7 @@ use std::borrow::Cow;
 
 use crate::credits::credited;
 use crate::journal::{self, Record, HEADER, LARGEST};
-use crate::keeper::{Keeper, LONGEST, START};
+use crate::keeper::{least_bytes, Keeper, LONGEST, START};
 use crate::pools::INPUT;
 use crate::random::Random;
 use crate::transcript::perform;
@@ -83,7 +83,7 @@ impl Draft {
 
     /// A seed with just enough bytes for its credit, or a few more.
     fn credit(&mut self, random: &mut Random, bits: u32) {
-        let length = (bits as usize).div_ceil(8) + random.below(3) as usize;
+        let length = least_bytes(bits) + random.below(3) as usize;
         let bytes = Cow::Owned(random.bytes(length.min(LONGEST)));
         let now = self.now;
         self.add(Record::Seed {
@@ -134,7 +134,7 @@ impl Draft {
 fn most_bits(count: u32, target: u32) -> u32 {
     let (mut low, mut high) = (0, 8 * LONGEST as u32);
     while low < high {
-        let middle = (low + high).div_ceil(2);
+        let middle = (low + high + 1) / 2;
         if credited(count, INPUT.size, middle) <= target {
             low = middle;
         } else {
@@ -549,7 +549,7 @@ fn bounds(journal: &[u8]) -> Vec<usize> {
 }
 
 fn damaged(random: &mut Random, seed: u64, turn: u64) -> Vec<u8> {
-    if turn.is_multiple_of(3) {
+    if turn % 3 == 0 {
         return cut_in_turn(seed, turn / 3);
     }
     let mut journal = match random.below(3) {
