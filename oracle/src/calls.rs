@@ -6,7 +6,7 @@ use std::io::{self, Write};
 
 use crate::journal::{hex, Record};
 use crate::keeper::{Answer, Keeper, BAD_START, DEVICES, LONGEST, START};
-use crate::maker::{any_record, first_clock, start, Pace};
+use crate::maker::anything::{any_record, first_clock, start, Pace};
 use crate::pools::{BLOCKING, INPUT};
 use crate::random::Random;
 use crate::transcript::perform_into;

@@ -1,0 +1,141 @@
+//! Journals with something wrong in them.
+
+use std::borrow::Cow;
+
+use super::cuts::{cut_in_turn, one_of_each};
+use super::mixes::mix;
+use crate::journal::{self, Record, HEADER, LARGEST};
+use crate::keeper::LONGEST;
+use crate::random::Random;
+
+/// The bytes at which the records of a good journal begin, and its end.
+fn bounds(journal: &[u8]) -> Vec<usize> {
+    let mut records = journal::Records::new(&journal[HEADER..]);
+    let mut bounds = vec![HEADER];
+    while records.next().is_some() {
+        bounds.push(journal.len() - records.rest().len());
+    }
+    bounds
+}
+
+pub fn damaged(random: &mut Random, seed: u64, turn: u64) -> Vec<u8> {
+    if turn % 3 == 0 {
+        return cut_in_turn(seed, turn / 3);
+    }
+    let mut journal = match random.below(3) {
+        0 => one_of_each(random).bytes,
+        _ => mix(random).bytes,
+    };
+    match turn * 2 / 3 % 8 {
+        0 => {
+            let cut = random.below(journal.len() as u64) as usize;
+            journal.truncate(cut);
+        }
+        1 | 2 => {
+            // Half of the time in the first record's bytes or the header,
+            // where a turned bit changes most.
+            let most = match random.below(2) {
+                0 => journal.len(),
+                _ => journal.len().min(HEADER + 30),
+            };
+            let at = random.below(most as u64) as usize;
+            journal[at] ^= 1 << random.below(8);
+        }
+        3 => {
+            let at = random.pick(&bounds(&journal));
+            let other = random.between(7, 255) as u8;
+            let kind = random.pick(&[0, 7, 8, 255, other]);
+            if at < journal.len() && random.one_in(2) {
+                journal[at] = kind;
+            } else {
+                journal.insert(at, kind);
+            }
+        }
+        4 => {
+            let other = random.below(65_536) as u16;
+            let version = random.pick(&[0, 2, 256, 257, 255, other]);
+            journal[3..5].copy_from_slice(&version.to_le_bytes());
+            shorten_header(random, &mut journal);
+        }
+        5 => {
+            let at = random.below(3) as usize;
+            journal[at] = random.pick(&[0, b'N', b'K', b'J', b'n', 255, journal[at] ^ 32]);
+            shorten_header(random, &mut journal);
+        }
+        6 => long_record(random, &mut journal),
+        _ => {
+            if random.one_in(2) {
+                largest(random, &mut journal);
+            } else {
+                long_record(random, &mut journal);
+            }
+        }
+    }
+    journal
+}
+
+/// Sometimes leaves only a part of the header, to see which fault counts.
+fn shorten_header(random: &mut Random, journal: &mut Vec<u8>) {
+    if random.one_in(3) {
+        journal.truncate(random.between(0, HEADER as u64) as usize);
+    }
+}
+
+/// Puts in a write or seed that names too great a length, with all of its
+/// bytes, some or none, or with its fields cut.
+fn long_record(random: &mut Random, journal: &mut Vec<u8>) {
+    let bounds = bounds(journal);
+    let at = random.pick(&bounds);
+    let length: u16 = random.pick(&[4_096, 4_097, 4_097, 4_098, 8_192, 65_535]);
+    let kind = random.pick(&[3, 4]);
+    let mut record = vec![kind];
+    record.extend(random.u32().to_le_bytes());
+    record.extend(length.to_le_bytes());
+    if kind == 4 {
+        let credit: u32 = random.pick(&[0, 8, u32::MAX]);
+        record.extend(credit.to_le_bytes());
+    }
+    let follow = random.pick(&[0, 0, 0, 1, 20, 20]);
+    record.extend(random.bytes(follow));
+    if random.one_in(12) {
+        let all = random.pick(&[4_096, 4_097]);
+        record.extend(random.bytes(all));
+    }
+    if random.one_in(3) {
+        // Mostly after the length, where a credit may be missing.
+        let least = random.pick(&[1, 7, 7]);
+        record.truncate(random.between(least, 11) as usize);
+    }
+    if random.one_in(2) {
+        journal.truncate(at);
+        journal.extend(record);
+    } else {
+        journal.splice(at..at, record);
+    }
+}
+
+/// Fills a journal up to the largest size, or to one byte more.
+fn largest(random: &mut Random, journal: &mut Vec<u8>) {
+    while journal.len() < LARGEST {
+        let left = LARGEST - journal.len();
+        if left < 7 {
+            // Too little for a record: what is left is one cut short.
+            journal.resize(LARGEST, 1);
+            break;
+        }
+        let length = match left - 7 {
+            room if room <= LONGEST => room,
+            room => LONGEST.min(room - 7),
+        };
+        let bytes = Cow::Owned(random.bytes(length));
+        Record::Write { now: 0, bytes }.write(journal);
+    }
+    if random.one_in(2) {
+        journal.push(5);
+        if !random.one_in(3) {
+            // The size counts before anything else that is wrong.
+            let at = random.pick(&[0, 2, 3]);
+            journal[at] = 0;
+        }
+    }
+}

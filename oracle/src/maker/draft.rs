@@ -1,0 +1,138 @@
+//! A journal while it is being made.
+
+use std::borrow::Cow;
+
+use crate::credits::credited;
+use crate::journal::{self, Record};
+use crate::keeper::{least_bytes, Keeper, LONGEST, START};
+use crate::pools::INPUT;
+use crate::random::Random;
+use crate::transcript::perform;
+
+/// A journal being made, with a keeper that follows it: what to try next
+/// often depends on the counts so far.
+pub struct Draft {
+    pub bytes: Vec<u8>,
+    pub keeper: Keeper,
+    pub now: u32,
+}
+
+impl Draft {
+    pub fn new(start: [u8; START], now: u32) -> Draft {
+        Draft {
+            bytes: journal::header(&start),
+            keeper: Keeper::make(&start).expect("the start has its length"),
+            now,
+        }
+    }
+
+    pub fn add(&mut self, record: Record) {
+        record.write(&mut self.bytes);
+        perform(&mut self.keeper, &record);
+    }
+
+    pub fn device(&mut self, random: &mut Random, device: u8, now: u32) {
+        let value = random.u32();
+        self.add(Record::Device {
+            now,
+            device,
+            stamp: random.u64(),
+            value,
+        });
+    }
+
+    pub fn interrupt(&mut self, random: &mut Random, now: u32) {
+        self.add(Record::Interrupt {
+            now,
+            number: random.below(256) as u32,
+            stamp: random.u64(),
+            address: random.u64(),
+        });
+    }
+
+    pub fn generator(&mut self, now: u32, length: u16) {
+        self.add(Record::Generator { now, length });
+    }
+
+    pub fn blocking(&mut self, length: u16) {
+        let now = self.now;
+        self.add(Record::Blocking { now, length });
+    }
+
+    /// A seed with just enough bytes for its credit, or a few more.
+    pub fn credit(&mut self, random: &mut Random, bits: u32) {
+        let length = least_bytes(bits) + random.below(3) as usize;
+        let bytes = Cow::Owned(random.bytes(length.min(LONGEST)));
+        let now = self.now;
+        self.add(Record::Seed {
+            now,
+            credit: bits,
+            bytes,
+        });
+    }
+
+    /// Credits until the input count is the target, or just below it.
+    pub fn steer(&mut self, random: &mut Random, target: u32) {
+        for _ in 0..8 {
+            let count = self.keeper.input.count;
+            if count >= target {
+                return;
+            }
+            let most = most_bits(count, target);
+            if credited(count, INPUT.size, most) == target {
+                return self.credit(random, most);
+            }
+            // Where no one credit fits, a bit before it rounds off otherwise.
+            let far = most == 8 * LONGEST as u32;
+            self.credit(random, if far { most } else { 1 });
+        }
+        let most = most_bits(self.keeper.input.count, target);
+        self.credit(random, most);
+    }
+
+    /// A few calls that show what the keeper has become.
+    pub fn probe(&mut self, random: &mut Random) {
+        for _ in 0..random.between(1, 4) {
+            let near = 64 * random.between(1, 3);
+            let length = [
+                random.between(1, 40),
+                random.between(near - 1, near + 1),
+                random.between(near + 31, near + 33),
+            ];
+            let length = random.pick(&length) as u16;
+            match random.below(3) {
+                0 => self.blocking(length),
+                _ => self.generator(self.now, length),
+            }
+        }
+    }
+}
+
+/// The most bits that can be credited without passing the target.
+fn most_bits(count: u32, target: u32) -> u32 {
+    let (mut low, mut high) = (0, 8 * LONGEST as u32);
+    while low < high {
+        let middle = (low + high + 1) / 2;
+        if credited(count, INPUT.size, middle) <= target {
+            low = middle;
+        } else {
+            high = middle - 1;
+        }
+    }
+    low
+}
+
+#[cfg(test)]
+mod tests {
+    use super::*;
+
+    #[test]
+    fn steering_reaches_its_target() {
+        let mut random = Random::new(0, 0);
+        for target in [63, 64, 65, 511, 512, 513, 1_019, 1_023] {
+            let mut draft = Draft::new([0; START], 0);
+            draft.steer(&mut random, target);
+            assert_eq!(draft.keeper.input.count, target);
+        }
+    }
+}

@@ -1,0 +1,22 @@
+//! Mixes of any records.
+
+use super::anything::{any_record, first_clock, start, Pace};
+use super::draft::Draft;
+use crate::random::Random;
+
+pub fn mix(random: &mut Random) -> Draft {
+    let mut draft = Draft::new(start(random), first_clock(random));
+    let pace = Pace::any(random);
+    let large = random.one_in(25);
+    // Most reads of an unseeded keeper look the same.
+    if !random.one_in(4) {
+        let bits = random.between(150, 900) as u32;
+        draft.credit(random, bits);
+    }
+    for _ in 0..random.between(1, 45) {
+        draft.now = pace.next(random, draft.now);
+        let record = any_record(random, &draft.keeper, draft.now, large);
+        draft.add(record);
+    }
+    draft
+}
