@@ -270,7 +270,8 @@ impl Trace<'_> {
         writeln!(self.out, "put {field} {index} {value}")
     }
 
-    fn call(&mut self, random: &mut Random, now: u32) -> io::Result<()> {
+    /// Any call at all.
+    fn any_call(&mut self, random: &mut Random, now: u32) -> io::Result<()> {
         let large = random.one_in(12);
         let mut record = any_record(random, &self.keeper, now, large);
         if random.one_in(40) {
@@ -282,19 +283,97 @@ impl Trace<'_> {
                 _ => Record::Seed { now, credit, bytes },
             };
         }
-        let mut room = match &record {
+        self.call(random, &record)
+    }
+
+    fn call(&mut self, random: &mut Random, record: &Record) -> io::Result<()> {
+        let mut room = match record {
             Record::Generator { length, .. } | Record::Blocking { length, .. } => {
                 random.bytes(usize::from(*length))
             }
             _ => Vec::new(),
         };
-        writeln!(self.out, "{}", call_line(&record, &room))?;
-        let answer = perform_into(&mut self.keeper, &record, &mut room);
+        writeln!(self.out, "{}", call_line(record, &room))?;
+        let answer = perform_into(&mut self.keeper, record, &mut room);
         writeln!(self.out, "{}", answer_line(&answer))?;
         writeln!(self.out, "room {}", word_of(&room))?;
         writeln!(self.out, "{}", keeper_line(&self.keeper))
     }
+
+    /// Gives a fresh keeper a count that would seed it, which no journal can.
+    /// Nothing seeds it then but a credit, and one does even to a full pool.
+    fn unseeded_with_enough(&mut self, random: &mut Random) -> io::Result<()> {
+        let field = "input-count";
+        let count = random.pick(&[1_024, 1_025, 2_048, 32_767, 32_768]);
+        self.put(Place { field, index: 0 }, count)?;
+        for record in crediting_nothing(random) {
+            self.call(random, &record)?;
+        }
+        let one_bit = crediting_one_bit(random);
+        self.call(random, &one_bit)
+    }
 }
+
+/// Calls that credit nothing to a fresh keeper, though most of them mix.
+fn crediting_nothing(random: &mut Random) -> [Record<'static>; 7] {
+    // An event within one tick of its device's clock is worth nothing.
+    let one_tick = random.pick(&[0, 1, u32::MAX]);
+    [
+        seed(random, 0, 5),
+        seed(random, 0, 0),
+        Record::Write {
+            now: random.u32(),
+            bytes: random.bytes(5).into(),
+        },
+        event(random, 3, one_tick),
+        interrupt(random, 1_000),
+        Record::Generator {
+            now: random.u32(),
+            length: 3,
+        },
+        // Refused, as a bit needs a byte.
+        seed(random, 1, 0),
+    ]
+}
+
+/// A call that credits one bit after those.
+fn crediting_one_bit(random: &mut Random) -> Record<'static> {
+    match random.below(3) {
+        0 => seed(random, 1, 1),
+        1 => event(random, 4, 3),
+        _ => interrupt(random, 1_001),
+    }
+}
+
+fn seed(random: &mut Random, credit: u32, length: usize) -> Record<'static> {
+    Record::Seed {
+        now: random.u32(),
+        credit,
+        bytes: random.bytes(length).into(),
+    }
+}
+
+fn event(random: &mut Random, device: u8, now: u32) -> Record<'static> {
+    Record::Device {
+        now,
+        device,
+        stamp: random.u64(),
+        value: random.u32(),
+    }
+}
+
+fn interrupt(random: &mut Random, now: u32) -> Record<'static> {
+    Record::Interrupt {
+        now,
+        number: random.u32(),
+        stamp: random.u64(),
+        address: random.u64(),
+    }
+}
+
+/// One sequence of so many begins with a keeper that is unseeded and has a
+/// count that would seed it.
+const UNSEEDED_EVERY: u64 = 8;
 
 /// Writes `count` sequences.
 pub fn calls(seed: u64, count: u64, out: &mut dyn Write) -> io::Result<()> {
@@ -316,6 +395,9 @@ pub fn calls(seed: u64, count: u64, out: &mut dyn Write) -> io::Result<()> {
         writeln!(out, "answer 0 0 0 0\nroom -\n{}", keeper_line(&keeper))?;
 
         let mut trace = Trace { out, keeper };
+        if number % UNSEEDED_EVERY == 1 {
+            trace.unseeded_with_enough(random)?;
+        }
         let pace = Pace::any(random);
         let mut now = first_clock(random);
         if random.one_in(2) {
@@ -331,15 +413,15 @@ pub fn calls(seed: u64, count: u64, out: &mut dyn Write) -> io::Result<()> {
                     let (place, value) = ways.next().expect("a cycle goes on");
                     let kept = get(&trace.keeper, place);
                     trace.put(place, value)?;
-                    trace.call(random, now)?;
+                    trace.any_call(random, now)?;
                     trace.put(place, kept)?;
                 }
                 1 => {
                     let (place, value) = edge(random);
                     trace.put(place, value)?;
-                    trace.call(random, now)?;
+                    trace.any_call(random, now)?;
                 }
-                _ => trace.call(random, now)?,
+                _ => trace.any_call(random, now)?,
             }
         }
     }
@@ -478,6 +560,65 @@ mod tests {
             assert!(keeper.in_range());
             assert_eq!(get(&keeper, place), value);
         }
+    }
+
+    /// Reads off a trace's text the calls that were done on a keeper which was
+    /// unseeded with a count of 1,024 or more, and whether they seeded it.
+    fn done_unseeded_with_enough(text: &str) -> BTreeSet<(String, bool)> {
+        let mut done = BTreeSet::new();
+        let (mut count, mut seeded) = (0, false);
+        let mut call = "";
+        let mut answer = "";
+        for line in text.lines().filter(|l| !l.starts_with('#')) {
+            let w: Vec<&str> = line.split(' ').collect();
+            match w[0] {
+                "sequence" | "room" => {}
+                "put" if w[1] == "input-count" => count = number(w[3]),
+                "put" if w[1] == "seeded" => seeded = w[3] != "0",
+                "put" => {}
+                "answer" => answer = w[1],
+                "keeper" if w[1] == "none" => {}
+                "keeper" => {
+                    let seeds = w[10] == "1";
+                    if answer == "0" && !seeded && count >= 1_024 {
+                        let words: Vec<&str> = call.split(' ').collect();
+                        let name = match words[..] {
+                            ["seed", _, "0", "-"] => "empty seed of 0 bits",
+                            ["seed", _, "0", _] => "seed of 0 bits",
+                            ["seed", ..] => "seed",
+                            _ => words[0],
+                        };
+                        done.insert((name.to_owned(), seeds));
+                    }
+                    count = number(w[1]);
+                    seeded = seeds;
+                }
+                _ => call = line,
+            }
+        }
+        done
+    }
+
+    #[test]
+    fn the_first_sequence_leaves_an_unseeded_keeper_with_enough_alone() {
+        let nothing = [
+            "device",
+            "empty seed of 0 bits",
+            "interrupt",
+            "seed of 0 bits",
+            "write",
+        ];
+        let mut seeders = BTreeSet::new();
+        for seed in 0..30 {
+            let done = done_unseeded_with_enough(&trace(seed, 1));
+            for name in nothing {
+                assert!(done.contains(&(name.to_owned(), false)), "{seed}: {name}");
+            }
+            let seeds = done.into_iter().filter(|(_, seeds)| *seeds);
+            seeders.extend(seeds.map(|(name, _)| name));
+        }
+        let seeders: Vec<String> = seeders.into_iter().collect();
+        assert_eq!(seeders, ["device", "interrupt", "seed"]);
     }
 
     #[test]
