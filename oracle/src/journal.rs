@@ -200,10 +200,23 @@ pub fn header(start: &[u8; START]) -> Vec<u8> {
 }
 
 impl Record<'_> {
+    /// The byte that the record opens with.
+    pub fn kind(&self) -> u8 {
+        match self {
+            Record::Device { .. } => 1,
+            Record::Interrupt { .. } => 2,
+            Record::Write { .. } => 3,
+            Record::Seed { .. } => 4,
+            Record::Generator { .. } => 5,
+            Record::Blocking { .. } => 6,
+        }
+    }
+
     /// Puts the record at the end of a journal. Bytes that no length field
     /// can hold are a mistake of the caller.
     pub fn write(&self, out: &mut Vec<u8>) {
         let length = |bytes: &[u8]| u16::try_from(bytes.len()).expect("too many bytes");
+        out.push(self.kind());
         match self {
             Record::Device {
                 now,
@@ -211,7 +224,6 @@ impl Record<'_> {
                 stamp,
                 value,
             } => {
-                out.push(1);
                 out.extend(now.to_le_bytes());
                 out.push(*device);
                 out.extend(stamp.to_le_bytes());
@@ -223,32 +235,27 @@ impl Record<'_> {
                 stamp,
                 address,
             } => {
-                out.push(2);
                 out.extend(now.to_le_bytes());
                 out.extend(number.to_le_bytes());
                 out.extend(stamp.to_le_bytes());
                 out.extend(address.to_le_bytes());
             }
             Record::Write { now, bytes } => {
-                out.push(3);
                 out.extend(now.to_le_bytes());
                 out.extend(length(bytes).to_le_bytes());
                 out.extend_from_slice(bytes);
             }
             Record::Seed { now, credit, bytes } => {
-                out.push(4);
                 out.extend(now.to_le_bytes());
                 out.extend(length(bytes).to_le_bytes());
                 out.extend(credit.to_le_bytes());
                 out.extend_from_slice(bytes);
             }
             Record::Generator { now, length } => {
-                out.push(5);
                 out.extend(now.to_le_bytes());
                 out.extend(length.to_le_bytes());
             }
             Record::Blocking { now, length } => {
-                out.push(6);
                 out.extend(now.to_le_bytes());
                 out.extend(length.to_le_bytes());
             }

@@ -9,15 +9,20 @@ mod hash;
 mod journal;
 mod keeper;
 mod maker;
+mod pick;
 mod pools;
 mod random;
+mod situations;
+mod tally;
 mod transcript;
+mod watch;
 
-use std::collections::BTreeMap;
 use std::fs;
 use std::io::{self, BufWriter, Write};
 use std::path::{Path, PathBuf};
 use std::process::ExitCode;
+
+use pick::Picked;
 
 const USAGE: &str = "\
 usage: oracle transcript FILE..
@@ -26,6 +31,7 @@ usage: oracle transcript FILE..
        oracle compare --seed S --count N [--batch B] [--keep DIR] --program COMMAND..
        oracle calls --seed S --count N
        oracle tally --seed S --count N
+       oracle pick --seed S --count N --first F DIR
 ";
 
 /// The words of a command line after the command's name.
@@ -34,6 +40,7 @@ struct Options {
     seed: u64,
     count: u64,
     batch: u64,
+    first: u64,
     keep: Option<PathBuf>,
     program: Vec<String>,
     others: Vec<String>,
@@ -45,6 +52,7 @@ impl Options {
         let mut options = Options {
             count: 100,
             batch: 100,
+            first: 1,
             ..Options::default()
         };
         let mut in_program = false;
@@ -62,11 +70,20 @@ impl Options {
                 "--seed" => options.seed = number(value()?)?,
                 "--count" => options.count = number(value()?)?,
                 "--batch" => options.batch = number(value()?)?.max(1),
+                "--first" => options.first = number(value()?)?,
                 other if other.starts_with("--") => return Err(format!("unknown word {other}")),
                 _ => options.others.push(word.clone()),
             }
         }
         Ok(options)
+    }
+
+    /// The one folder that a command writes into.
+    fn folder(&self) -> Result<&Path, String> {
+        match &self.others[..] {
+            [folder] => Ok(Path::new(folder)),
+            _ => Err(USAGE.to_owned()),
+        }
     }
 }
 
@@ -108,11 +125,7 @@ fn run(words: &[String], out: &mut dyn Write) -> Result<bool, String> {
             Ok(true)
         }
         "make" => {
-            let folder = match &options.others[..] {
-                [folder] => Path::new(folder),
-                _ => return Err(USAGE.to_owned()),
-            };
-            make(&options, folder).map_err(text)?;
+            make(&options, options.folder()?).map_err(text)?;
             Ok(true)
         }
         "compare" => {
@@ -133,7 +146,16 @@ fn run(words: &[String], out: &mut dyn Write) -> Result<bool, String> {
             calls::calls(options.seed, options.count, out).map_err(text)?;
             Ok(true)
         }
-        "tally" => tally(&options, out).map_err(text),
+        "tally" => {
+            let journals = (1..=options.count).map(|n| maker::journal(options.seed, n));
+            tally::tally(journals, out).map_err(text)
+        }
+        "pick" => {
+            let folder = options.folder()?;
+            let picked = pick::pick(options.seed, options.count)?;
+            keep(folder, options.first, &picked, out).map_err(text)?;
+            Ok(true)
+        }
         other => Err(format!("unknown command {other}\n{USAGE}")),
     }
 }
@@ -151,45 +173,17 @@ fn make(options: &Options, folder: &Path) -> io::Result<()> {
     Ok(())
 }
 
-/// Prints how often each answer and ending comes up among the journals, and
-/// says which of those that a journal can bring up do not.
-fn tally(options: &Options, out: &mut dyn Write) -> io::Result<bool> {
-    let wanted = [
-        ("answer", vec![0, 1, 2, 3, 4, 5, 7]),
-        ("end", vec![0, 3, 8, 9, 10, 11, 12]),
-    ];
-    let mut seen: BTreeMap<(&str, u32), u64> = BTreeMap::new();
-    for (what, numbers) in &wanted {
-        for number in numbers {
-            seen.insert((what, *number), 0);
-        }
+/// Writes journals with their transcripts, and tells what each is for.
+fn keep(folder: &Path, first: u64, picked: &[Picked], out: &mut dyn Write) -> io::Result<()> {
+    fs::create_dir_all(folder)?;
+    for (number, Picked { text, journal }) in (first..).zip(picked) {
+        let name = format!("second{number:02}");
+        fs::write(folder.join(format!("{name}.nkj")), journal)?;
+        let transcript = transcript::transcript(journal);
+        fs::write(folder.join(format!("{name}.txt")), transcript)?;
+        writeln!(out, "{name}, {} bytes: {text}", journal.len())?;
     }
-    let mut sizes = Vec::new();
-    for number in 1..=options.count {
-        let journal = maker::journal(options.seed, number);
-        sizes.push(journal.len());
-        for line in transcript::transcript(&journal).lines() {
-            let (what, rest) = match line.strip_prefix("end ") {
-                Some(rest) => ("end", rest),
-                None => ("answer", line),
-            };
-            let first = rest.split(' ').next().and_then(|n| n.parse().ok());
-            *seen.entry((what, first.unwrap_or(u32::MAX))).or_default() += 1;
-        }
-    }
-    for ((what, number), times) in &seen {
-        writeln!(out, "{what} {number}: {times}")?;
-    }
-    let large = sizes.iter().filter(|size| **size >= 4_096).count();
-    let bytes: usize = sizes.iter().sum();
-    writeln!(
-        out,
-        "{} journals, {bytes} bytes, {large} of 4,096 bytes or more, seed {}",
-        options.count, options.seed
-    )?;
-    let missing = seen.values().filter(|times| **times == 0).count();
-    writeln!(out, "{missing} numbers missing")?;
-    Ok(missing == 0)
+    Ok(())
 }
 
 #[cfg(test)]
@@ -210,12 +204,5 @@ mod tests {
         assert!(Options::read(&words("--seed x")).is_err());
         assert!(Options::read(&words("--seed")).is_err());
         assert!(Options::read(&words("--sed 3")).is_err());
-    }
-
-    #[test]
-    fn all_numbers_come_up_among_2_000_journals() {
-        let options = Options::read(&words("--seed 1 --count 2000")).unwrap();
-        let mut out = Vec::new();
-        assert!(tally(&options, &mut out).unwrap());
     }
 }

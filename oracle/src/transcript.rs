@@ -39,28 +39,68 @@ pub fn perform_into(keeper: &mut Keeper, record: &Record, room: &mut [u8]) -> An
     }
 }
 
+/// One record of a replay, with what it brought about.
+pub struct Step<'a> {
+    pub record: &'a Record<'a>,
+    pub answer: Answer,
+    /// What a read delivered.
+    pub bytes: &'a [u8],
+    /// The keeper after it.
+    pub keeper: &'a Keeper,
+}
+
+/// How a replay ended.
+pub struct Ending<'a> {
+    pub number: u8,
+    /// The journal from the header or the record on that ended the replay;
+    /// nothing where every record was replayed.
+    pub rest: &'a [u8],
+}
+
+/// Replays a journal and shows each record once it is done.
+pub fn replay<'a>(journal: &'a [u8], show: &mut dyn FnMut(Step)) -> Ending<'a> {
+    let (start, mut records) = match journal::open(journal) {
+        Ok(opened) => opened,
+        Err(number) => {
+            return Ending {
+                number,
+                rest: journal,
+            }
+        }
+    };
+    let mut keeper = Keeper::make(start).expect("a header that opens holds a whole start");
+    loop {
+        let rest = records.rest();
+        let record = match records.next() {
+            Some(Ok(record)) => record,
+            Some(Err(number)) => return Ending { number, rest },
+            None => return Ending { number: DONE, rest },
+        };
+        let (answer, bytes) = perform(&mut keeper, &record);
+        show(Step {
+            record: &record,
+            answer,
+            bytes: &bytes,
+            keeper: &keeper,
+        });
+    }
+}
+
 /// The whole transcript of a journal, its last line included.
 pub fn transcript(journal: &[u8]) -> String {
     let mut out = String::new();
-    let ending = match replay(journal, &mut out) {
-        Ok(()) => DONE,
-        Err(number) => number,
-    };
-    out += &format!("end {ending}\n");
+    let ending = replay(journal, &mut |step| out += &line(&step));
+    out += &format!("end {}\n", ending.number);
     out
 }
 
-fn replay(journal: &[u8], out: &mut String) -> Result<(), u8> {
-    let (start, records) = journal::open(journal)?;
-    let mut keeper = Keeper::make(start)?;
-    for record in records {
-        let (answer, bytes) = perform(&mut keeper, &record?);
-        *out += &line(&answer, &keeper, &bytes);
-    }
-    Ok(())
-}
-
-fn line(answer: &Answer, keeper: &Keeper, bytes: &[u8]) -> String {
+fn line(step: &Step) -> String {
+    let Step {
+        answer,
+        bytes,
+        keeper,
+        ..
+    } = step;
     let mut line = format!(
         "{} {} {} {} {} {}",
         answer.number,

@@ -2,7 +2,7 @@
 
 use std::borrow::Cow;
 
-use super::cuts::{cut_in_turn, one_of_each};
+use super::cuts::one_of_each;
 use super::mixes::mix;
 use crate::journal::{self, Record, HEADER, LARGEST};
 use crate::keeper::LONGEST;
@@ -18,15 +18,13 @@ fn bounds(journal: &[u8]) -> Vec<usize> {
     bounds
 }
 
-pub fn damaged(random: &mut Random, seed: u64, turn: u64) -> Vec<u8> {
-    if turn % 3 == 0 {
-        return cut_in_turn(seed, turn / 3);
-    }
+/// A good journal with one fault, each sort of fault in turn.
+pub fn damaged(random: &mut Random, turn: u64) -> Vec<u8> {
     let mut journal = match random.below(3) {
         0 => one_of_each(random).bytes,
         _ => mix(random).bytes,
     };
-    match turn * 2 / 3 % 8 {
+    match turn % 8 {
         0 => {
             let cut = random.below(journal.len() as u64) as usize;
             journal.truncate(cut);
@@ -55,30 +53,19 @@ pub fn damaged(random: &mut Random, seed: u64, turn: u64) -> Vec<u8> {
             let other = random.below(65_536) as u16;
             let version = random.pick(&[0, 2, 256, 257, 255, other]);
             journal[3..5].copy_from_slice(&version.to_le_bytes());
-            shorten_header(random, &mut journal);
         }
         5 => {
             let at = random.below(3) as usize;
             journal[at] = random.pick(&[0, b'N', b'K', b'J', b'n', 255, journal[at] ^ 32]);
-            shorten_header(random, &mut journal);
         }
         6 => long_record(random, &mut journal),
-        _ => {
-            if random.one_in(2) {
-                largest(random, &mut journal);
-            } else {
-                long_record(random, &mut journal);
-            }
-        }
+        _ => match turn / 8 % 4 {
+            0 => largest(random, &mut journal),
+            1 => too_large(random, &mut journal),
+            _ => long_record(random, &mut journal),
+        },
     }
     journal
-}
-
-/// Sometimes leaves only a part of the header, to see which fault counts.
-fn shorten_header(random: &mut Random, journal: &mut Vec<u8>) {
-    if random.one_in(3) {
-        journal.truncate(random.between(0, HEADER as u64) as usize);
-    }
 }
 
 /// Puts in a write or seed that names too great a length, with all of its
@@ -114,7 +101,7 @@ fn long_record(random: &mut Random, journal: &mut Vec<u8>) {
     }
 }
 
-/// Fills a journal up to the largest size, or to one byte more.
+/// Fills a journal up to the largest size.
 fn largest(random: &mut Random, journal: &mut Vec<u8>) {
     while journal.len() < LARGEST {
         let left = LARGEST - journal.len();
@@ -130,12 +117,15 @@ fn largest(random: &mut Random, journal: &mut Vec<u8>) {
         let bytes = Cow::Owned(random.bytes(length));
         Record::Write { now: 0, bytes }.write(journal);
     }
-    if random.one_in(2) {
-        journal.push(5);
-        if !random.one_in(3) {
-            // The size counts before anything else that is wrong.
-            let at = random.pick(&[0, 2, 3]);
-            journal[at] = 0;
-        }
+}
+
+/// Fills a journal up to one byte more than that.
+fn too_large(random: &mut Random, journal: &mut Vec<u8>) {
+    largest(random, journal);
+    journal.push(5);
+    if !random.one_in(3) {
+        // The size counts before anything else that is wrong.
+        let at = random.pick(&[0, 2, 3]);
+        journal[at] = 0;
     }
 }

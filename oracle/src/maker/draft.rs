@@ -2,7 +2,8 @@
 
 use std::borrow::Cow;
 
-use crate::credits::credited;
+use super::HALF;
+use crate::credits::{clock_difference, credited};
 use crate::journal::{self, Record};
 use crate::keeper::{least_bytes, Keeper, LONGEST, START};
 use crate::pools::INPUT;
@@ -59,16 +60,19 @@ impl Draft {
         self.add(Record::Blocking { now, length });
     }
 
-    /// A seed with just enough bytes for its credit, or a few more.
-    pub fn credit(&mut self, random: &mut Random, bits: u32) {
-        let length = least_bytes(bits) + random.below(3) as usize;
-        let bytes = Cow::Owned(random.bytes(length.min(LONGEST)));
+    pub fn seed(&mut self, random: &mut Random, bits: u32, length: usize) {
         let now = self.now;
         self.add(Record::Seed {
             now,
             credit: bits,
-            bytes,
+            bytes: Cow::Owned(random.bytes(length)),
         });
+    }
+
+    /// A seed with just enough bytes for its credit, or a few more.
+    pub fn credit(&mut self, random: &mut Random, bits: u32) {
+        let length = least_bytes(bits) + random.below(3) as usize;
+        self.seed(random, bits, length.min(LONGEST));
     }
 
     /// Credits until the input count is the target, or just below it.
@@ -88,6 +92,33 @@ impl Draft {
         }
         let most = most_bits(self.keeper.input.count, target);
         self.credit(random, most);
+    }
+
+    /// The same, and where it falls short of `least`, a bit at a time until it
+    /// does not.
+    pub fn steer_above(&mut self, random: &mut Random, least: u32, target: u32) {
+        self.steer(random, target);
+        while self.keeper.input.count < least {
+            self.credit(random, 1);
+        }
+    }
+
+    /// Spills by time, until an interrupt at `now` will spill by time too. A
+    /// quarter of the clock at a step always comes by such a place.
+    pub fn wait_for_a_spill(&mut self, random: &mut Random, now: u32) {
+        while clock_difference(now, self.keeper.last_spill) <= 1_000 {
+            let later = self.keeper.last_spill.wrapping_add(HALF / 2);
+            self.interrupt(random, later);
+        }
+    }
+
+    /// Seeds the keeper if need be, and reads: what was mixed into the input
+    /// pool shows in no other way.
+    pub fn reveal(&mut self, random: &mut Random) {
+        if !self.keeper.seeded {
+            self.credit(random, 200);
+        }
+        self.generator(self.now, 4);
     }
 
     /// A few calls that show what the keeper has become.

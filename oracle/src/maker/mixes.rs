@@ -2,6 +2,7 @@
 
 use super::anything::{any_record, first_clock, start, Pace};
 use super::draft::Draft;
+use super::kinds::unknown_kind;
 use crate::random::Random;
 
 pub fn mix(random: &mut Random) -> Draft {
@@ -19,4 +20,14 @@ pub fn mix(random: &mut Random) -> Draft {
         draft.add(record);
     }
     draft
+}
+
+/// A mix; four of five have an unknown kind at their end. A mix shows no less
+/// for that, and 250 kinds need not have journals of their own.
+pub fn mix_in_turn(random: &mut Random, turn: u64) -> Vec<u8> {
+    let mut draft = mix(random);
+    if turn % 5 < 4 {
+        unknown_kind(random, turn / 5 * 4 + turn % 5, &mut draft);
+    }
+    draft.bytes
 }

@@ -96,6 +96,7 @@ fn spill_clocks(draft: &mut Draft, random: &mut Random) {
         let now = beside(random, draft.keeper.last_spill, &distances);
         draft.interrupt(random, now);
     }
+    draft.reveal(random);
     draft.probe(random);
 }
 
@@ -133,6 +134,7 @@ fn event_clocks(draft: &mut Draft, random: &mut Random) {
         let now = beside(random, from, &[distance]);
         draft.device(random, device, now);
     }
+    draft.reveal(random);
     draft.probe(random);
 }
 
@@ -153,6 +155,7 @@ fn tallies(draft: &mut Draft, random: &mut Random) {
         let now = beside(random, draft.keeper.last_spill, &[500, 1_000]);
         draft.interrupt(random, now);
     }
+    draft.reveal(random);
     draft.probe(random);
 }
 

@@ -1,0 +1,167 @@
+//! Chooses a few small journals that together show what is easily missed, to
+//! be kept with their transcripts.
+
+use crate::maker;
+use crate::situations::{Next, Seeder, Situation, Situation::*, Wait};
+use crate::watch::Shown;
+
+/// What a kept journal is to show.
+struct Wish {
+    text: String,
+    shows: Vec<(Situation, Value)>,
+}
+
+#[derive(Clone, Copy)]
+enum Value {
+    Any,
+    Is(u32),
+}
+
+/// A journal that was chosen, and what for.
+pub struct Picked {
+    pub text: String,
+    pub journal: Vec<u8>,
+}
+
+impl Wish {
+    fn new(text: &str, shows: &[(Situation, Value)]) -> Wish {
+        Wish {
+            text: text.to_owned(),
+            shows: shows.to_vec(),
+        }
+    }
+
+    fn met_by(&self, shown: &Shown) -> bool {
+        self.shows.iter().all(|(situation, value)| match value {
+            Value::Any => situation
+                .values()
+                .iter()
+                .any(|value| shown.times(*situation, *value) > 0),
+            Value::Is(value) => shown.times(*situation, *value) > 0,
+        })
+    }
+}
+
+fn wishes() -> Vec<Wish> {
+    use Value::{Any, Is};
+    let mut wishes = Vec::new();
+    for (seeder, name) in [
+        (Seeder::Event, "a device event"),
+        (Seeder::Interrupt, "an interrupt"),
+        (Seeder::Seed, "a seed"),
+    ] {
+        let waits = [Wait::NotDue, Wait::Due, Wait::RanBack];
+        wishes.push(Wish {
+            text: format!(
+                "first seeded by {name}; reads at a clock that ran back, \
+                 after 300,000 ticks, and after 300,001, when a reseed is due"
+            ),
+            shows: waits
+                .map(|wait| (FirstSeeded(seeder, wait, false), Any))
+                .to_vec(),
+        });
+        wishes.push(Wish {
+            text: format!("first seeded by {name}; the clock goes through zero before a reseed"),
+            shows: [Wait::NotDue, Wait::Due]
+                .map(|wait| (FirstSeeded(seeder, wait, true), Any))
+                .to_vec(),
+        });
+    }
+    wishes.extend([
+        Wish::new(
+            "seeds of 0 bits on a count of 1,024 or more, then a read, a reseed and a blocking read",
+            &[Next::Read, Next::Reseed, Next::BlockingRead].map(|next| (NothingCredited(next), Any)),
+        ),
+        Wish::new(
+            "a spill by time at a tally of 5, and 64 interrupts later one by number",
+            &[
+                (SpillByTime, Is(5)),
+                (SpillAt1001, Any),
+                (NoSpillAt1000, Any),
+                (SpillByNumberAfterTime, Is(5)),
+                (SpillByNumberAfterRunningBack, Any),
+            ],
+        ),
+        Wish::new("an unknown kind alone", &[(UnknownKindAlone, Any)]),
+        Wish::new(
+            "an unknown kind with bytes after it",
+            &[(UnknownKindFollowed, Any), (Answer(0), Any)],
+        ),
+        Wish::new(
+            "devices 192 to 255 refused, devices 0 to 15 done",
+            &[
+                (DeviceRefused, Is(192)),
+                (DeviceRefused, Is(255)),
+                (DeviceDone, Is(0)),
+                (DeviceDone, Is(15)),
+            ],
+        ),
+        Wish::new(
+            "a whole header with wrong letters",
+            &[(HeaderLetters, Is(53))],
+        ),
+        Wish::new(
+            "a header cut short, its letters in lower case",
+            &[(AllLettersLower, Any), (LettersBeforeVersion(true), Any)],
+        ),
+        Wish::new(
+            "a header cut within a version that cannot be right",
+            &[(HeaderVersion, Is(4))],
+        ),
+        Wish::new(
+            "a header cut short, of version 257",
+            &[(VersionWrong, Is(257))],
+        ),
+        Wish::new(
+            "a header one byte short, its version wrong",
+            &[(HeaderVersion, Is(52))],
+        ),
+    ]);
+    wishes
+}
+
+/// The smallest journal of a run for each wish.
+pub fn pick(seed: u64, count: u64) -> Result<Vec<Picked>, String> {
+    let mut journals: Vec<Vec<u8>> = (1..=count).map(|n| maker::journal(seed, n)).collect();
+    journals.sort_by_key(Vec::len);
+    let shown: Vec<Shown> = journals.iter().map(|journal| Shown::by(journal)).collect();
+    wishes()
+        .into_iter()
+        .map(|wish| match shown.iter().position(|s| wish.met_by(s)) {
+            Some(at) => Ok(Picked {
+                text: wish.text,
+                journal: journals[at].clone(),
+            }),
+            None => Err(format!("no journal shows this: {}", wish.text)),
+        })
+        .collect()
+}
+
+#[cfg(test)]
+mod tests {
+    use super::*;
+    use crate::transcript::transcript;
+
+    #[test]
+    fn each_wish_is_met_by_a_small_journal() {
+        let picked = pick(1, 2_000).unwrap();
+        assert_eq!(picked.len(), wishes().len());
+        for (one, wish) in picked.iter().zip(wishes()) {
+            assert!(wish.met_by(&Shown::by(&one.journal)), "{}", wish.text);
+            assert!(one.journal.len() < 1_900, "{}", wish.text);
+        }
+        let endings = ["11", "11", "0", "8", "8", "10", "9", "9"];
+        for (one, ending) in picked[8..].iter().zip(endings) {
+            let text = transcript(&one.journal);
+            assert!(text.ends_with(&format!("end {ending}\n")), "{}", one.text);
+        }
+        let bytes: usize = picked.iter().map(|one| one.journal.len()).sum();
+        assert!(bytes < 12_000, "{bytes}");
+    }
+
+    #[test]
+    fn a_run_too_short_is_told() {
+        let message = pick(1, 30).err().unwrap();
+        assert!(message.starts_with("no journal shows this: "));
+    }
+}

@@ -1,0 +1,178 @@
+//! The situations that a run of journals has to show.
+
+use std::fmt;
+
+use self::Situation::*;
+
+/// What seeded a keeper for the first time.
+#[derive(Clone, Copy, Debug, PartialEq, Eq, PartialOrd, Ord)]
+pub enum Seeder {
+    Event,
+    Interrupt,
+    Seed,
+}
+
+/// How far a generator read lies from the seeding clock.
+#[derive(Clone, Copy, Debug, PartialEq, Eq, PartialOrd, Ord)]
+pub enum Wait {
+    NotDue,
+    Due,
+    RanBack,
+}
+
+/// What comes after a seed of 0 bits.
+#[derive(Clone, Copy, Debug, PartialEq, Eq, PartialOrd, Ord)]
+pub enum Next {
+    Read,
+    Reseed,
+    BlockingRead,
+}
+
+/// Some are looked for at each of many values: all tallies, all kinds, all
+/// lengths. The others have the one value 0.
+#[derive(Clone, Copy, Debug, PartialEq, Eq, PartialOrd, Ord)]
+pub enum Situation {
+    Answer(u8),
+    End(u8),
+    /// A generator read while the key is still that of the first seeding, with
+    /// input enough for another, and whether the clock went through zero.
+    FirstSeeded(Seeder, Wait, bool),
+    /// A seed of 0 bits, with bytes, on a count that would seed a keeper.
+    NothingCredited(Next),
+    NoSpillAt1000,
+    SpillAt1001,
+    /// By the tally that the interrupt itself made.
+    SpillByTime,
+    SpillByTimePastZero,
+    /// By the tally of the spill by time before it.
+    SpillByNumberAfterTime,
+    SpillByNumberAfterRunningBack,
+    KindWhole,
+    UnknownKindAlone,
+    UnknownKindFollowed,
+    DeviceDone,
+    DeviceRefused,
+    /// By the length; so are the next two.
+    HeaderRight,
+    HeaderLetters,
+    HeaderVersion,
+    /// By the letter's place, from 1.
+    OneLetterWrong,
+    OneLetterLower,
+    AllLettersLower,
+    /// Whether the version behind wrong letters is the right one.
+    LettersBeforeVersion(bool),
+    /// By the version.
+    VersionWrong,
+}
+
+impl Situation {
+    /// All of them, in the order in which they are told.
+    pub fn all() -> Vec<Situation> {
+        let mut all = Vec::new();
+        all.extend([0, 1, 2, 3, 4, 5, 7].map(Answer));
+        all.extend([0, 3, 8, 9, 10, 11, 12].map(End));
+        for seeder in [Seeder::Event, Seeder::Interrupt, Seeder::Seed] {
+            for wait in [Wait::NotDue, Wait::Due, Wait::RanBack] {
+                all.extend([false, true].map(|past_zero| FirstSeeded(seeder, wait, past_zero)));
+            }
+        }
+        all.extend([Next::Read, Next::Reseed, Next::BlockingRead].map(NothingCredited));
+        all.extend([
+            NoSpillAt1000,
+            SpillAt1001,
+            SpillByTime,
+            SpillByTimePastZero,
+            SpillByNumberAfterTime,
+            SpillByNumberAfterRunningBack,
+            KindWhole,
+            UnknownKindAlone,
+            UnknownKindFollowed,
+            DeviceDone,
+            DeviceRefused,
+            HeaderRight,
+            HeaderLetters,
+            HeaderVersion,
+            OneLetterWrong,
+            OneLetterLower,
+            AllLettersLower,
+            LettersBeforeVersion(true),
+            LettersBeforeVersion(false),
+            VersionWrong,
+        ]);
+        all
+    }
+
+    /// The values at which it has to come up.
+    pub fn values(self) -> Vec<u32> {
+        match self {
+            SpillByTime | SpillByNumberAfterTime => (1..=63).collect(),
+            KindWhole => (1..=6).collect(),
+            UnknownKindAlone | UnknownKindFollowed => {
+                (0..=255).filter(|kind| !(1..=6).contains(kind)).collect()
+            }
+            DeviceDone => (0..=15).collect(),
+            DeviceRefused => (16..=255).collect(),
+            HeaderRight => (0..=53).collect(),
+            HeaderLetters => (1..=53).collect(),
+            HeaderVersion => (4..=53).collect(),
+            OneLetterWrong | OneLetterLower => (1..=3).collect(),
+            VersionWrong => vec![0, 2, 255, 256, 257, 65_535],
+            _ => vec![0],
+        }
+    }
+}
+
+impl fmt::Display for Situation {
+    fn fmt(&self, f: &mut fmt::Formatter<'_>) -> fmt::Result {
+        let text = match self {
+            Answer(number) => return write!(f, "answer {number}"),
+            End(number) => return write!(f, "end {number}"),
+            FirstSeeded(seeder, wait, past_zero) => {
+                let seeder = match seeder {
+                    Seeder::Event => "a device event",
+                    Seeder::Interrupt => "an interrupt",
+                    Seeder::Seed => "a seed",
+                };
+                let wait = match wait {
+                    Wait::NotDue => "not due after 300,000 ticks",
+                    Wait::Due => "due after 300,001 ticks",
+                    Wait::RanBack => "not due as the clock ran back",
+                };
+                let zero = if *past_zero { ", past zero" } else { "" };
+                return write!(f, "first seeded by {seeder}: reseed {wait}{zero}");
+            }
+            NothingCredited(next) => {
+                let next = match next {
+                    Next::Read => "a generator read",
+                    Next::Reseed => "a reseed",
+                    Next::BlockingRead => "a blocking read from the input pool",
+                };
+                return write!(f, "seed of 0 bits on 1,024 or more, then {next}");
+            }
+            NoSpillAt1000 => "no spill 1,000 ticks after the last",
+            SpillAt1001 => "spill by time 1,001 ticks after the last",
+            SpillByTime => "spill by time, at each tally",
+            SpillByTimePastZero => "spill by time, past zero",
+            SpillByNumberAfterTime => "spill by number, 64 after one by time at each tally",
+            SpillByNumberAfterRunningBack => {
+                "spill by number, the clock ran back since one by time"
+            }
+            KindWhole => "kinds read whole",
+            UnknownKindAlone => "unknown kinds, alone",
+            UnknownKindFollowed => "unknown kinds, with bytes after them",
+            DeviceDone => "devices done",
+            DeviceRefused => "devices refused",
+            HeaderRight => "header right so far, of each length",
+            HeaderLetters => "header with wrong letters, of each length",
+            HeaderVersion => "header with a wrong version, of each length",
+            OneLetterWrong => "header with one wrong letter, each of them",
+            OneLetterLower => "header with one letter in lower case, each of them",
+            AllLettersLower => "header with all letters in lower case",
+            LettersBeforeVersion(true) => "header with wrong letters and the right version",
+            LettersBeforeVersion(false) => "header with wrong letters and a wrong version",
+            VersionWrong => "header of versions 0, 2, 255, 256, 257, 65,535",
+        };
+        f.write_str(text)
+    }
+}
