@@ -4,7 +4,7 @@ use mathlib.Core.Path.{_≡_, refl, sym, ap, _∙_}
 use mathlib.Core.List.{List, [], _∷_, _++_, map, append-assoc, append-nil}
 use Prim.Native.Nat.{ℕ, zero, suc, _+_, _<_, _≤_}
 use native.Mathlib.Omega.{arith}
-use borrow.Author.Tests.{ne-eqb, eq-eqb}
+use borrow.Author.Tests.{le-ltb, ne-eqb, eq-eqb}
 use lib.ListN.{length}
 use Rattle.ledger.specs.Choice.{pick}
 use Rattle.journal.specs.Records.{readAt}
@@ -21,7 +21,11 @@ use Rattle.keeper.specs.declared.Keeper.{Keeper}
 use Rattle.replay.specs.Running.{callOf, lineFor}
 use Rattle.replay.specs.Turns.{After, after, turnOf}
 use Rattle.replay.specs.Whole.{linesOf, transcriptOf, turnsWrite}
-use Rattle.replay.proofs.Onwards.{past}
+
+-- past the last byte there is no record
+past : (j : List ℕ) (at : ℕ) → length j ≤ at → readAt j at ≡ End
+unfolding readAt pick
+past j at h = rw (le-ltb at (length j) h)
 
 -- the transcript from a position on
 unfoldable rest : ℕ → List ℕ → ℕ → Keeper → List ℕ

@@ -1,19 +1,18 @@
--- The whole replay of a journal: its transcript, the keeper that it leaves, and what turns write one after another.
+-- The whole replay of a journal: its transcript, what turns write one after another, and what of it the public fields decide.
 use mathlib.Core.Bool.{Bool, true, false}
 use mathlib.Core.List.{List, [], _∷_, _++_, map}
-use Prim.Native.Nat.{ℕ, zero, suc}
+use Prim.Native.Nat.{ℕ, zero, suc, _-_}
 use lib.Dec.{eqb}
 use Rattle.ledger.specs.Choice.{pick}
-use Rattle.journal.specs.Header.{headerOf, startOf}
+use Rattle.journal.specs.Header.{startOf}
 use Rattle.journal.specs.Ending.{endingOf, recordsOf}
-use Rattle.transcript.specs.Lines.{lineOf, endOf}
-use Rattle.ledger.specs.Marks.{inputCount, blockingCount}
+use Rattle.transcript.specs.Lines.{endOf}
 use Rattle.keeper.specs.Record.{Outcome, fresh}
 use Rattle.keeper.specs.Calls.{Call}
-use Rattle.keeper.specs.Demands.{outcomes, keeperAfter}
+use Rattle.keeper.specs.Demands.{outcomes}
 use Rattle.keeper.specs.declared.Keeper.{Keeper}
 use Rattle.replay.specs.Running.{callOf, lineFor}
-use Rattle.replay.specs.Turns.{After, turnOf}
+use Rattle.replay.specs.Turns.{turnOf}
 
 -- the calls of a journal: one for each whole record, up to what ends the replay
 abbrev pub callsOf : List ℕ → List Call
@@ -32,10 +31,6 @@ linesOf (o ∷ os) = lineFor o ++ linesOf os
 unfoldable pub transcriptOf : List ℕ → List ℕ
 transcriptOf j = linesOf (outcomesOf j) ++ endOf (endingOf j)
 
--- the keeper that a replay leaves in a record; where the header is not good, the record stays as it was
-unfoldable pub replayed : List ℕ → Keeper → Keeper
-replayed j k = pick (eqb (headerOf j) 0) (keeperAfter (fresh (startOf j)) (callsOf j)) k
-
 -- what n turns write, stopping where a turn says that there is no more
 abbrev pub ifMore : {A : Type 0} → Bool → List A → List A
 ifMore true l = l
@@ -46,10 +41,19 @@ turnsWrite zero j at k = []
 turnsWrite (suc n) j at k =
     let a = turnOf j at k in a .line ++ ifMore (a .more) (turnsWrite n j (a .at) (a .keeper))
 
--- ---- the transcript without the hex: each line as if nothing had been handed out, which leaves its six numbers as they are
-unfoldable pub linesUnhexed : List Outcome → List ℕ
-linesUnhexed [] = []
-linesUnhexed (o ∷ os) = lineOf (o .answer) (inputCount (o .keeper .ledger)) (blockingCount (o .keeper .ledger)) [] ++ linesUnhexed os
+-- ---- a transcript with the hex blotted out, and all else as it is. Five spaces stand between a line's six numbers, so its sixth opens the hex
+-- how many spaces a line has before its hex is over, behind a byte: six at its start, none in the hex
+unfoldable pub spacesLeft : ℕ → ℕ → ℕ
+spacesLeft n b = pick (eqb b 10) 6 (pick (eqb b 32) (n - 1) n)
 
-unfoldable pub unhexed : List ℕ → List ℕ
-unhexed j = linesUnhexed (outcomesOf j) ++ endOf (endingOf j)
+-- a byte, or `*` in the hex
+unfoldable pub blot : ℕ → ℕ → ℕ
+blot zero b = 42
+blot (suc n) b = b
+
+unfoldable pub blottedFrom : ℕ → List ℕ → List ℕ
+blottedFrom n [] = []
+blottedFrom n (b ∷ text) = let left = spacesLeft n b in blot left b ∷ blottedFrom left text
+
+abbrev pub blotted : List ℕ → List ℕ
+blotted text = blottedFrom 6 text

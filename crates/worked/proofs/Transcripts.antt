@@ -1,0 +1,115 @@
+-- Whole transcripts, worked out by the checker from the definitions alone, byte by byte: the example of the paper, and a journal with a record
+-- of each kind but a write, whose last line has two different counts. What they must be was written by the second program. Assumes nothing.
+use mathlib.Core.Path.{_≡_, refl}
+use mathlib.Core.List.{List, [], _∷_, _++_, zipWith}
+use Prim.Native.Nat.{ℕ}
+use lib.ListN.{replicate}
+use Rattle.words.specs.Words.{rotl}
+use Rattle.words.specs.Bytes.{leBytes, leNumber, swapped, wordsBytes, bytesWords}
+use Rattle.chacha.specs.Chacha.{line, quarterRound, innerBlock, rounds, chachaBlock}
+use Rattle.sha1.specs.Sha1.{ch, parity, maj, mix as Sha1·mix, constant, initialHash, nextWord, schedule, step, run, compressed}
+use Rattle.ledger.specs.Choice.{pick}
+use Rattle.ledger.specs.Credits.{further, credited, taken}
+use Rattle.ledger.specs.Clocks.{signed, log2, estimate, eventBits}
+use Rattle.ledger.specs.Range.{ledgerInRange, restInRange, inRange}
+use Rattle.pool.specs.Mixing.{twisted, tapped, mixedWords, mix}
+use Rattle.pool.specs.Extracting.{hashed, poolHash, folded, extractBlocks}
+use Rattle.keeper.specs.FastPool.{stirred}
+use Rattle.keeper.specs.Generator.{xorAt, counted, stream, generated}
+use Rattle.keeper.specs.Narrative.{reseed, creditInput, eventCall, interruptCall, seedCall, generate, readCall, transfer, deliver, blockingCall, act, told}
+use Rattle.keeper.specs.Demands.{outcomes}
+use Rattle.journal.specs.Fields.{num}
+use Rattle.journal.specs.Header.{headerOf, startOf}
+use Rattle.journal.specs.Records.{whole, carried, eventAt, interruptAt, seedAt, generatorReadAt, blockingReadAt, recordAt, readAt}
+use Rattle.journal.specs.Ending.{endingFrom, endingOf, recordsFrom, recordsOf}
+use Rattle.transcript.specs.Text.{digits, wordOf, glyphOf, hexOf, tailOf}
+use Rattle.transcript.specs.Lines.{lineOf, endOf}
+use Rattle.replay.specs.Running.{callOf, lineFor}
+use Rattle.replay.specs.Whole.{linesOf, transcriptOf, spacesLeft, blot, blottedFrom, blotted}
+
+-- the mark and the version
+abbrev opening : List ℕ
+opening = 78 ∷ 75 ∷ 74 ∷ 1 ∷ 0 ∷ []
+
+-- `end 0`
+abbrev end-0 : List ℕ
+end-0 = 101 ∷ 110 ∷ 100 ∷ 32 ∷ 48 ∷ 10 ∷ []
+
+-- ---- the paper's example: 48 zero bytes, and a generator read of 4 bytes before seeding
+pub paper-told : transcriptOf (opening ++ replicate 48 0 ++ (5 ∷ 0 ∷ 0 ∷ 0 ∷ 0 ∷ 4 ∷ 0 ∷ []))
+    -- `2 0 0 0 0 0`
+    ≡ (50 ∷ 32 ∷ 48 ∷ 32 ∷ 48 ∷ 32 ∷ 48 ∷ 32 ∷ 48 ∷ 32 ∷ 48 ∷ 10 ∷ []) ++ end-0
+unfolding transcriptOf linesOf outcomes lineFor callOf recordsOf recordsFrom endingOf endingFrom headerOf startOf readAt recordAt generatorReadAt whole num lineOf endOf wordOf digits tailOf told inRange restInRange ledgerInRange act readCall bytesWords leNumber pick
+paper-told = refl
+
+-- ---- six records: each with its bytes, and with its line
+
+-- the start bytes, 0 to 47
+abbrev start : List ℕ
+start = 0 ∷ 1 ∷ 2 ∷ 3 ∷ 4 ∷ 5 ∷ 6 ∷ 7 ∷ 8 ∷ 9 ∷ 10 ∷ 11 ∷ 12 ∷ 13 ∷ 14 ∷ 15 ∷ 16 ∷ 17 ∷ 18 ∷ 19 ∷ 20 ∷ 21 ∷ 22 ∷ 23 ∷ 24 ∷ 25 ∷ 26 ∷ 27 ∷
+    28 ∷ 29 ∷ 30 ∷ 31 ∷ 32 ∷ 33 ∷ 34 ∷ 35 ∷ 36 ∷ 37 ∷ 38 ∷ 39 ∷ 40 ∷ 41 ∷ 42 ∷ 43 ∷ 44 ∷ 45 ∷ 46 ∷ 47 ∷ []
+
+-- an event of device 1
+abbrev event : List ℕ
+event = 1 ∷ 220 ∷ 5 ∷ 0 ∷ 0 ∷ 1 ∷ 239 ∷ 205 ∷ 171 ∷ 137 ∷ 103 ∷ 69 ∷ 35 ∷ 1 ∷ 7 ∷ 0 ∷ 0 ∷ 0 ∷ []
+
+-- `0 0 60 0 0 0`
+abbrev event-line : List ℕ
+event-line = 48 ∷ 32 ∷ 48 ∷ 32 ∷ 54 ∷ 48 ∷ 32 ∷ 48 ∷ 32 ∷ 48 ∷ 32 ∷ 48 ∷ 10 ∷ []
+
+-- an interrupt, late enough to spill
+abbrev interrupt : List ℕ
+interrupt = 2 ∷ 221 ∷ 5 ∷ 0 ∷ 0 ∷ 9 ∷ 0 ∷ 0 ∷ 0 ∷ 239 ∷ 205 ∷ 171 ∷ 137 ∷ 103 ∷ 69 ∷ 35 ∷ 1 ∷ 16 ∷ 50 ∷ 84 ∷ 118 ∷ 152 ∷ 186 ∷ 220 ∷ 254 ∷
+    []
+
+-- `0 0 65 0 0 0`
+abbrev interrupt-line : List ℕ
+interrupt-line = 48 ∷ 32 ∷ 48 ∷ 32 ∷ 54 ∷ 53 ∷ 32 ∷ 48 ∷ 32 ∷ 48 ∷ 32 ∷ 48 ∷ 10 ∷ []
+
+-- a seed of 22 bytes with 171 bits, which seeds the keeper
+abbrev seeding : List ℕ
+seeding = 4 ∷ 222 ∷ 5 ∷ 0 ∷ 0 ∷ 22 ∷ 0 ∷ 171 ∷ 0 ∷ 0 ∷ 0 ∷ 0 ∷ 1 ∷ 2 ∷ 3 ∷ 4 ∷ 5 ∷ 6 ∷ 7 ∷ 8 ∷ 9 ∷ 10 ∷ 11 ∷ 12 ∷ 13 ∷ 14 ∷ 15 ∷ 16 ∷ 17 ∷
+    18 ∷ 19 ∷ 20 ∷ 21 ∷ []
+
+-- `0 0 0 0 0 16`
+abbrev seeding-line : List ℕ
+seeding-line = 48 ∷ 32 ∷ 48 ∷ 32 ∷ 48 ∷ 32 ∷ 48 ∷ 32 ∷ 48 ∷ 32 ∷ 49 ∷ 54 ∷ 10 ∷ []
+
+-- a generator read of 8 bytes
+abbrev eight : List ℕ
+eight = 5 ∷ 223 ∷ 5 ∷ 0 ∷ 0 ∷ 8 ∷ 0 ∷ []
+
+-- `0 8 0 0 1 0 78f897c00d88881f`
+abbrev eight-line : List ℕ
+eight-line = 48 ∷ 32 ∷ 56 ∷ 32 ∷ 48 ∷ 32 ∷ 48 ∷ 32 ∷ 49 ∷ 32 ∷ 48 ∷ 32 ∷ 55 ∷ 56 ∷ 102 ∷ 56 ∷ 57 ∷ 55 ∷ 99 ∷ 48 ∷ 48 ∷ 100 ∷ 56 ∷ 56 ∷ 56
+    ∷ 56 ∷ 49 ∷ 102 ∷ 10 ∷ []
+
+-- a seed of 16 bytes with 128 bits
+abbrev credit : List ℕ
+credit = 4 ∷ 224 ∷ 5 ∷ 0 ∷ 0 ∷ 16 ∷ 0 ∷ 128 ∷ 0 ∷ 0 ∷ 0 ∷ 97 ∷ 98 ∷ 99 ∷ 100 ∷ 101 ∷ 102 ∷ 103 ∷ 104 ∷ 105 ∷ 106 ∷ 107 ∷ 108 ∷ 109 ∷ 110 ∷
+    111 ∷ 112 ∷ []
+
+-- `0 0 768 0 0 0`
+abbrev credit-line : List ℕ
+credit-line = 48 ∷ 32 ∷ 48 ∷ 32 ∷ 55 ∷ 54 ∷ 56 ∷ 32 ∷ 48 ∷ 32 ∷ 48 ∷ 32 ∷ 48 ∷ 10 ∷ []
+
+-- a blocking read of 3 bytes, which leaves 256 units in the one pool and 192 in the other
+abbrev three : List ℕ
+three = 6 ∷ 225 ∷ 5 ∷ 0 ∷ 0 ∷ 3 ∷ 0 ∷ []
+
+-- `0 3 256 192 0 10 595a27`
+abbrev three-line : List ℕ
+three-line = 48 ∷ 32 ∷ 51 ∷ 32 ∷ 50 ∷ 53 ∷ 54 ∷ 32 ∷ 49 ∷ 57 ∷ 50 ∷ 32 ∷ 48 ∷ 32 ∷ 49 ∷ 48 ∷ 32 ∷ 53 ∷ 57 ∷ 53 ∷ 97 ∷ 50 ∷ 55 ∷ 10 ∷ []
+
+abbrev six : List ℕ
+six = opening ++ (start ++ (event ++ (interrupt ++ (seeding ++ (eight ++ (credit ++ three))))))
+
+pub six-told : transcriptOf six ≡ event-line ++ (interrupt-line ++ (seeding-line ++ (eight-line ++ (credit-line ++ (three-line ++ end-0)))))
+unfolding transcriptOf linesOf outcomes lineFor callOf recordsOf recordsFrom endingOf endingFrom headerOf startOf readAt recordAt eventAt interruptAt seedAt generatorReadAt blockingReadAt carried whole num lineOf endOf wordOf digits tailOf hexOf glyphOf told inRange restInRange ledgerInRange act eventCall interruptCall seedCall readCall generate blockingCall deliver transfer creditInput reseed eventBits estimate log2 signed taken credited further stirred generated stream counted xorAt bytesWords leNumber wordsBytes leBytes chachaBlock rounds innerBlock quarterRound line extractBlocks poolHash hashed folded compressed initialHash run step schedule nextWord constant Sha1·mix ch parity maj swapped mix mixedWords tapped twisted rotl zipWith pick
+six-told = refl
+
+-- ---- the hex blotted out: `0 3 256 192 0 10*******`, and the last line as it is
+pub three-blotted : blotted (three-line ++ end-0) ≡ (48 ∷ 32 ∷ 51 ∷ 32 ∷ 50 ∷ 53 ∷ 54 ∷ 32 ∷ 49 ∷ 57 ∷ 50 ∷ 32 ∷ 48 ∷ 32 ∷ 49 ∷ 48 ∷ 42 ∷
+    42 ∷ 42 ∷ 42 ∷ 42 ∷ 42 ∷ 42 ∷ 10 ∷ []) ++ end-0
+unfolding blottedFrom blot spacesLeft pick
+three-blotted = refl
