@@ -354,9 +354,10 @@ mod tests {
     fn reads_that_show_nothing_of_a_first_seeding() {
         let none = |records: &[Record]| {
             let shown = shown(records);
-            WAITS
-                .iter()
-                .all(|wait| shown.times(FirstSeeded(Seeder::Seed, *wait, false), 0) == 0)
+            WAITS.iter().all(|wait| {
+                let times = |zero| shown.times(FirstSeeded(Seeder::Seed, *wait, zero), 0);
+                times(false) + times(true) == 0
+            })
         };
         let seeds = [seed(1_000, 400, 50), seed(0, 400, 50)];
         let with = |record: Record<'static>| [&seeds[..], &[record]].concat();
