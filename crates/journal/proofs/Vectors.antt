@@ -5,14 +5,13 @@ use Prim.Native.Nat.{ℕ, _<_}
 use borrow.Author.Tests.{lt-ltb}
 use lib.ListN.{length, replicate}
 use Rattle.ledger.specs.Choice.{pick}
-use Rattle.ledger.specs.Numbers.{tooLong, markWrong, versionWrong, cutShort, unknownKind, journalTooLarge}
 use Rattle.journal.specs.Fields.{num}
-use Rattle.journal.specs.Records.{readAt, recordAt, writeAt, seedAt, generatorReadAt, blockingReadAt, whole, carried}
+use Rattle.journal.specs.Records.{readAt, recordAt, eventAt, interruptAt, writeAt, seedAt, generatorReadAt, blockingReadAt, whole, carried}
 use Rattle.journal.specs.Header.{headerWithin, headerOf}
 use Rattle.journal.specs.Ending.{endingFrom, endingOf, recordsFrom, recordsOf}
 use Rattle.journal.specs.Walking.{walkFrom, walk, recordsIn}
 use Rattle.journal.specs.Cutting.{upTo, reached, boundary, telling, enough, cutNumber, cutWalk, walkWithin}
-use Rattle.journal.specs.declared.records.Record.the-variants.{Read, BlockingRead, Write}
+use Rattle.journal.specs.declared.records.Record.the-variants.{Event, Interrupt, Write, Seed, Read, BlockingRead}
 use Rattle.journal.specs.declared.records.Found.the-variants.{One}
 
 -- a good header with a start of zero bytes
@@ -35,56 +34,72 @@ paper-ends : endingOf paper ≡ 0
 unfolding paper opening endingOf endingFrom headerOf headerWithin readAt recordAt generatorReadAt whole num pick
 paper-ends = refl
 
+-- a record of each kind, no two bytes of which are the same within a record: every field is where it is and not another
+each-kind :
+    recordsOf
+    (opening
+    ++ (1 ∷ 1 ∷ 2 ∷ 3 ∷ 4 ∷ 5 ∷ 6 ∷ 7 ∷ 8 ∷ 9 ∷ 10 ∷ 11 ∷ 12 ∷ 13 ∷ 14 ∷ 15 ∷ 16 ∷ 17
+    ∷ 2 ∷ 18 ∷ 19 ∷ 20 ∷ 21 ∷ 22 ∷ 23 ∷ 24 ∷ 25 ∷ 26 ∷ 27 ∷ 28 ∷ 29 ∷ 30 ∷ 31 ∷ 32 ∷ 33 ∷ 34 ∷ 35 ∷ 36 ∷ 37 ∷ 38 ∷ 39 ∷ 40 ∷ 41
+    ∷ 3 ∷ 42 ∷ 43 ∷ 44 ∷ 45 ∷ 2 ∷ 0 ∷ 46 ∷ 47
+    ∷ 4 ∷ 48 ∷ 49 ∷ 50 ∷ 51 ∷ 1 ∷ 0 ∷ 52 ∷ 53 ∷ 54 ∷ 55 ∷ 56
+    ∷ 5 ∷ 57 ∷ 58 ∷ 59 ∷ 60 ∷ 61 ∷ 62
+    ∷ 6 ∷ 63 ∷ 64 ∷ 65 ∷ 66 ∷ 67 ∷ 68 ∷ []))
+    ≡ Event 0x04030201 5 0x0d0c0b0a09080706 0x11100f0e ∷ Interrupt 0x15141312 0x19181716 0x21201f1e1d1c1b1a 0x2928272625242322
+    ∷ Write 0x2d2c2b2a 103 2 ∷ Seed 0x33323130 0x37363534 116 1 ∷ Read 0x3c3b3a39 0x3e3d ∷ BlockingRead 0x4241403f 0x4443 ∷ []
+unfolding opening recordsOf recordsFrom headerOf headerWithin readAt recordAt eventAt interruptAt writeAt seedAt generatorReadAt blockingReadAt whole carried num pick
+each-kind = refl
+
+-- ---- the numbers as they are printed
 -- 12: any bytes, if there are more than 61,440 of them
-too-large : (j : List ℕ) → 61440 < length j → endingOf j ≡ journalTooLarge
+too-large : (j : List ℕ) → 61440 < length j → endingOf j ≡ 12
 unfolding endingOf headerOf headerWithin pick
 too-large j h = rw (lt-ltb 61440 (length j) h)
 
 -- 8: no bytes; a last letter that is not ours, although no version follows it
-no-mark : endingOf [] ≡ markWrong
+no-mark : endingOf [] ≡ 8
 unfolding endingOf headerOf headerWithin pick
 no-mark = refl
 
-mark-wrong : endingOf (78 ∷ 75 ∷ 75 ∷ []) ≡ markWrong
+mark-wrong : endingOf (78 ∷ 75 ∷ 75 ∷ []) ≡ 8
 unfolding endingOf headerOf headerWithin pick
 mark-wrong = refl
 
 -- 10: half a version
-version-missing : endingOf (78 ∷ 75 ∷ 74 ∷ 1 ∷ []) ≡ cutShort
+version-missing : endingOf (78 ∷ 75 ∷ 74 ∷ 1 ∷ []) ≡ 10
 unfolding endingOf headerOf headerWithin pick
 version-missing = refl
 
 -- 9: version 2, although no start follows it
-version-wrong : endingOf (78 ∷ 75 ∷ 74 ∷ 2 ∷ 0 ∷ []) ≡ versionWrong
+version-wrong : endingOf (78 ∷ 75 ∷ 74 ∷ 2 ∷ 0 ∷ []) ≡ 9
 unfolding endingOf headerOf headerWithin num pick
 version-wrong = refl
 
 -- 10: 47 start bytes
-start-missing : endingOf ((78 ∷ 75 ∷ 74 ∷ 1 ∷ 0 ∷ []) ++ replicate 47 0) ≡ cutShort
+start-missing : endingOf ((78 ∷ 75 ∷ 74 ∷ 1 ∷ 0 ∷ []) ++ replicate 47 0) ≡ 10
 unfolding endingOf headerOf headerWithin num pick
 start-missing = refl
 
 -- 10: a seed of no bytes, whose credit has three bytes of four
-credit-cut : endingOf (opening ++ (4 ∷ 0 ∷ 0 ∷ 0 ∷ 0 ∷ 0 ∷ 0 ∷ 1 ∷ 0 ∷ 0 ∷ [])) ≡ cutShort
+credit-cut : endingOf (opening ++ (4 ∷ 0 ∷ 0 ∷ 0 ∷ 0 ∷ 0 ∷ 0 ∷ 1 ∷ 0 ∷ 0 ∷ [])) ≡ 10
 unfolding opening endingOf endingFrom headerOf headerWithin readAt recordAt seedAt whole num pick
 credit-cut = refl
 
 -- 10: a write of two bytes that has one
-bytes-cut : endingOf (opening ++ (3 ∷ 0 ∷ 0 ∷ 0 ∷ 0 ∷ 2 ∷ 0 ∷ 9 ∷ [])) ≡ cutShort
+bytes-cut : endingOf (opening ++ (3 ∷ 0 ∷ 0 ∷ 0 ∷ 0 ∷ 2 ∷ 0 ∷ 9 ∷ [])) ≡ 10
 unfolding opening endingOf endingFrom headerOf headerWithin readAt recordAt writeAt whole carried num pick
 bytes-cut = refl
 
 -- 11: kinds 0 and 7
-kind-0 : endingOf (opening ++ (0 ∷ [])) ≡ unknownKind
+kind-0 : endingOf (opening ++ (0 ∷ [])) ≡ 11
 unfolding opening endingOf endingFrom headerOf headerWithin readAt recordAt num pick
 kind-0 = refl
 
-kind-7 : endingOf (opening ++ (7 ∷ [])) ≡ unknownKind
+kind-7 : endingOf (opening ++ (7 ∷ [])) ≡ 11
 unfolding opening endingOf endingFrom headerOf headerWithin readAt recordAt num pick
 kind-7 = refl
 
 -- 3: a write of 4,097 bytes, of which none is there
-too-long : endingOf (opening ++ (3 ∷ 0 ∷ 0 ∷ 0 ∷ 0 ∷ 1 ∷ 16 ∷ [])) ≡ tooLong
+too-long : endingOf (opening ++ (3 ∷ 0 ∷ 0 ∷ 0 ∷ 0 ∷ 1 ∷ 16 ∷ [])) ≡ 3
 unfolding opening endingOf endingFrom headerOf headerWithin readAt recordAt writeAt whole carried num pick
 too-long = refl
 
@@ -104,7 +119,7 @@ torn = opening ++ (3 ∷ 0 ∷ 0 ∷ 0 ∷ 0 ∷ 1 ∷ 0 ∷ 9 ∷ 7 ∷ [])
 
 -- 8 and 10 in the header; 0 right behind it and behind the write; 10 within the write; 11 with the unknown kind
 torn-at : map (λ n. walkWithin n torn .number) (2 ∷ 4 ∷ 52 ∷ 53 ∷ 54 ∷ 60 ∷ 61 ∷ 62 ∷ [])
-    ≡ markWrong ∷ cutShort ∷ cutShort ∷ 0 ∷ cutShort ∷ cutShort ∷ 0 ∷ unknownKind ∷ []
+    ≡ 8 ∷ 10 ∷ 10 ∷ 0 ∷ 10 ∷ 10 ∷ 0 ∷ 11 ∷ []
 unfolding torn opening walkWithin cutWalk cutNumber enough telling upTo reached boundary headerWithin walk walkFrom readAt recordAt writeAt whole carried num pick
 torn-at = refl
 
@@ -114,6 +129,6 @@ unfolding torn opening walkWithin cutWalk cutNumber enough telling upTo reached 
 torn-kept = refl
 
 -- a write of 4,097 bytes is told by its seven bytes, and not by six
-torn-long : map (λ n. walkWithin n (opening ++ (3 ∷ 0 ∷ 0 ∷ 0 ∷ 0 ∷ 1 ∷ 16 ∷ 9 ∷ [])) .number) (59 ∷ 60 ∷ []) ≡ cutShort ∷ tooLong ∷ []
+torn-long : map (λ n. walkWithin n (opening ++ (3 ∷ 0 ∷ 0 ∷ 0 ∷ 0 ∷ 1 ∷ 16 ∷ 9 ∷ [])) .number) (59 ∷ 60 ∷ []) ≡ 10 ∷ 3 ∷ []
 unfolding opening walkWithin cutWalk cutNumber enough telling upTo reached boundary headerWithin walk walkFrom readAt recordAt writeAt whole carried num pick
 torn-long = refl
