@@ -6,13 +6,12 @@ use Prim.Native.Nat.{ℕ, zero, suc, _+_, _≤_, _<_}
 use native.Mathlib.Omega.{arith}
 use borrow.Author.Tests.{le-leb, lt-leb}
 use lib.ListN.{length, take, drop, length-append, length-drop}
-use lib.Seq.{sets-eq, length-take-le, take-append-seam, drop-append-add, drop-drop}
+use lib.Seq.{sets-eq, take-append-seam, drop-append-add, drop-drop}
 use Rattle.ledger.specs.Choice.{pick}
 use Rattle.transcript.specs.Text.{Put}
 use Rattle.keeper.specs.declared.Keeper.{Keeper}
 use Rattle.replay.specs.Turns.{turnOf, Took}
 use Rattle.replay.specs.declared.turns.Turn.{Turn}
-use Rattle.nk.specs.declared.batches.Batch.{Batch}
 use Rattle.nk.specs.Batches.{Lines, turnsBehind, batchOf, Laid}
 use Rattle.nk.proofs.Turning.{short, ahead}
 

@@ -59,7 +59,7 @@ ahead j at k e = ahead-after j at k (readAt j at) refl e
 unfoldable pub rest : List ℕ → ℕ → Keeper → List ℕ
 rest j at k = turnsWrite (suc (suc (length j))) j at k
 
-pub when : (b : Bool) (x y : List ℕ) → (b ≡ true → x ≡ y) → ifMore b x ≡ ifMore b y
+when : (b : Bool) (x y : List ℕ) → (b ≡ true → x ≡ y) → ifMore b x ≡ ifMore b y
 when true x y h = h refl
 when false x y h = refl
 

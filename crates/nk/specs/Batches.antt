@@ -1,5 +1,5 @@
 -- A journal's transcript as the program writes it: in texts, one a write, each as many lines as a room of 65,536 bytes takes.
-use mathlib.Core.Bool.{Bool, true, false}
+use mathlib.Core.Bool.{Bool, false}
 use mathlib.Core.Path.{_≡_}
 use mathlib.Core.List.{List, [], _∷_, _++_}
 use Prim.Native.Nat.{ℕ, zero, suc, _+_, _<_}

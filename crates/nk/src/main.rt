@@ -4,9 +4,10 @@
 // at a time, `batches` fills the room, `output` lays and writes bytes, `messages` has what is said to a person, `status` what it all came to.
 //
 // No contract can say what is read or written. So the bytes of a transcript go out by one function, `replaying::hand_over`, whose contract
-// says which they are: the text of the journal that comes next, by a count that this function moves. proofs/Texts.antt shows that a journal's
-// texts, one behind another, are its transcript; and where standard output took all it was handed, all of them were handed over, each once
-// and in order. What is left to the eye is that `hand_over` writes what it is handed, and that nothing else in `replaying` writes or counts.
+// says which they are: the text of the journal that comes next, by a count that this function moves. proofs/Texts.antt shows that the texts
+// of a journal, one behind another, are its transcript; and where standard output took all that it was handed, it was handed all of them,
+// each once and in order. What is left to the eye: that `hand_over` writes what it is handed, and that nothing else in `replaying` writes
+// or counts.
 mod arguments;
 mod batches;
 mod files;

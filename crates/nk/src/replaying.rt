@@ -32,7 +32,7 @@ fn blank_ledger() -> Ledger {
 }
 
 // Hands the text of the transcript that comes next to standard output, and counts it. The journal is here for the contract, which says
-// that these bytes are that text. The count is moved here alone: where a text were left out or handed over twice, the next would not be
+// that these bytes are that text. The count is moved here alone: if a text were left out or handed over twice, the next one would not be
 // the one that the count says.
 fn hand_over(j: &[u8], done: &mut usize, text: &[u8]) -> Sent
     requires { ⌜ Next (now j) (now done) (now text) ⌝ }

@@ -1,28 +1,24 @@
 -- What a turn leaves, by what stands at the position. Assumes nothing.
-use mathlib.Core.Path.{_≡_, refl, sym, ap, _∙_}
-use mathlib.Core.Bool.{Bool, true, false, false≢true}
-use mathlib.Core.List.{List, [], _++_}
-use Prim.Native.Nat.{ℕ, _+_, _*_, _<_, _≤_}
+use mathlib.Core.Path.{_≡_, refl, ap, _∙_}
+use mathlib.Core.Bool.{true, false}
+use mathlib.Core.List.{List, _++_}
+use Prim.Native.Nat.{ℕ, _+_, _*_, _≤_}
 use native.Mathlib.Omega.{arith}
 use borrow.Author.Tests.{le-leb}
-use lib.ListN.{length, take, drop, length-append}
+use lib.ListN.{length, take, drop}
 use Rattle.journal.specs.Records.{readAt}
 use Rattle.journal.specs.declared.records.Record.{Record}
-use Rattle.journal.specs.declared.records.Found.{Found}
 use Rattle.journal.specs.declared.records.Found.the-variants.{One, Stop, End}
-use Rattle.journal.proofs.Laws.{read-ahead}
 use Rattle.transcript.specs.Lines.{Written, lineOf, lineIn, endOf, endIn, atStart}
 use Rattle.ledger.specs.Marks.{inputCount, blockingCount}
-use Rattle.ledger.specs.declared.Ledger.{Ledger}
-use Rattle.keeper.specs.Record.{Outcome, roomAfter}
+use Rattle.keeper.specs.Record.{roomAfter}
 use Rattle.keeper.specs.Narrative.{told}
 use Rattle.keeper.specs.declared.Keeper.{Keeper}
 use Rattle.keeper.specs.declared.Answer.{Answer}
 use Rattle.steps.specs.Promise.{Left, left, leaves}
 use Rattle.replay.specs.Running.{callOf, lineFor}
-use Rattle.replay.specs.Turns.{After, after, turnOf, Took}
-use Rattle.replay.specs.declared.turns.Turn.{Turn}
-use Rattle.replay.proofs.Handing.{few, Front, front}
+use Rattle.replay.specs.Turns.{after, turnOf, Took}
+use Rattle.replay.proofs.Handing.{few, front}
 
 -- a text that fitted
 wrote : (room b t : List ℕ) (n : ℕ) → _≡_ {A = Written} (record { count = n; room = b }) (atStart room t) → (n ≡ length t) × (b ≡ t ++ drop (length t) room)

@@ -1,7 +1,7 @@
 -- The lines that turns write, one after another, are the whole transcript; and it ends with the number that a scan of the bytes alone gives,
 -- whatever the keeper is. Assumes nothing.
 use mathlib.Core.Path.{_≡_, refl, sym, ap, _∙_}
-use mathlib.Core.List.{List, [], _∷_, _++_, map, append-assoc, append-nil}
+use mathlib.Core.List.{List, _++_, map, append-assoc, append-nil}
 use Prim.Native.Nat.{ℕ, zero, suc, _+_, _<_, _≤_}
 use native.Mathlib.Omega.{arith}
 use borrow.Author.Tests.{le-ltb, ne-eqb, eq-eqb}
@@ -19,7 +19,7 @@ use Rattle.keeper.specs.Narrative.{told}
 use Rattle.keeper.specs.Demands.{outcomes}
 use Rattle.keeper.specs.declared.Keeper.{Keeper}
 use Rattle.replay.specs.Running.{callOf, lineFor}
-use Rattle.replay.specs.Turns.{After, after, turnOf}
+use Rattle.replay.specs.Turns.{after, turnOf}
 use Rattle.replay.specs.Whole.{linesOf, transcriptOf, turnsWrite}
 
 -- past the last byte there is no record

@@ -8,7 +8,7 @@ use Rattle.journal.specs.Records.{readAt}
 use Rattle.journal.specs.declared.records.Found.{Found}
 use Rattle.journal.specs.declared.records.Found.the-variants.{One, Stop, End}
 use Rattle.transcript.specs.Lines.{endOf}
-use Rattle.keeper.specs.Record.{Outcome, roomAfter}
+use Rattle.keeper.specs.Record.{roomAfter}
 use Rattle.keeper.specs.Narrative.{told}
 use Rattle.keeper.specs.declared.Keeper.{Keeper}
 use Rattle.replay.specs.Running.{callOf, lineFor}

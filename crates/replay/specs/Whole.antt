@@ -41,8 +41,8 @@ turnsWrite zero j at k = []
 turnsWrite (suc n) j at k =
     let a = turnOf j at k in a .line ++ ifMore (a .more) (turnsWrite n j (a .at) (a .keeper))
 
--- ---- a transcript with the hex blotted out, and all else as it is. Five spaces stand between a line's six numbers, so its sixth opens the hex
--- how many spaces a line has before its hex is over, behind a byte: six at its start, none in the hex
+-- ---- a transcript with the hex blotted out, and all else as it is. Between a line's six numbers stand five spaces: the sixth opens the hex
+-- how many spaces of its line are still to come, behind a byte: six at the line's start, none in the hex
 unfoldable pub spacesLeft : ℕ → ℕ → ℕ
 spacesLeft n b = pick (eqb b 10) 6 (pick (eqb b 32) (n - 1) n)
 

@@ -1,5 +1,4 @@
 use mathlib.Core.Path.{refl, sym}
-use mathlib.Core.Bool.{true, false}
 use Prim.Native.Nat.{_-_}
 use lib.ListN.{length}
 use borrow.Author.Tests.{not-false, not-true}
