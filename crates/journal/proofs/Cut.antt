@@ -1,9 +1,9 @@
 -- What stands at a position of a journal that is cut: the same as in the whole where enough is left to tell, else it is cut short. So no byte
 -- behind a record's own has a say in it.
-use mathlib.Core.Path.{_≡_, refl, sym, ap, _∙_}
+use mathlib.Core.Path.{_≡_, refl}
 use mathlib.Core.Bool.{Bool, true, false}
 use mathlib.Core.List.{List}
-use Prim.Native.Nat.{ℕ, zero, suc, _+_, _≤_, _<_, min}
+use Prim.Native.Nat.{ℕ, zero, suc, _+_, _≤_, _<_}
 use native.Mathlib.Omega.{arith}
 use borrow.Author.Tests.{leb-true, leb-false, ltb-true, ltb-false, le-leb, lt-leb, lt-ltb, le-ltb}
 use lib.Dec.{leb, ltb}
@@ -16,7 +16,7 @@ use Rattle.journal.specs.Records.{whole, carried, eventAt, interruptAt, 
 use Rattle.journal.specs.Cutting.{telling, enough}
 use Rattle.journal.specs.declared.records.Record.{Record}
 use Rattle.journal.specs.declared.records.Found.{Found}
-use Rattle.journal.specs.declared.records.Found.the-variants.{One, Stop, End}
+use Rattle.journal.specs.declared.records.Found.the-variants.{Stop, End}
 
 -- a number that is all there
 pub num-cut : (k n : ℕ) (j : List ℕ) (at : ℕ) → at + k ≤ n → num k (take n j) at ≡ num k j at

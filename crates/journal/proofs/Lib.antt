@@ -1,4 +1,3 @@
-pub mod Vectors
 pub mod Parts
 pub mod Onward
 pub mod Cut
@@ -8,3 +7,4 @@ pub mod Told
 pub mod Walks
 pub mod CutWalks
 pub mod CutJournals
+pub mod Vectors

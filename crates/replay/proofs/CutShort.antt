@@ -15,7 +15,7 @@ use Rattle.journal.specs.Walking.{Walk, walk, walkOf, recordsIn}
 use Rattle.journal.specs.Cutting.{upTo}
 use Rattle.journal.specs.declared.records.Record.{Record}
 use Rattle.journal.specs.declared.records.Record.the-variants.{Event, Interrupt, Write, Seed, Read, BlockingRead}
-use Rattle.journal.specs.declared.records.Found.the-variants.{One, Stop, End}
+use Rattle.journal.specs.declared.records.Found.the-variants.{One}
 use Rattle.journal.proofs.Laws.{write-cut, seed-cut, start-cut}
 use Rattle.journal.proofs.GoodHeader.{header-cut, header-kept}
 use Rattle.journal.proofs.Walks.{along, walk-one, walk-stop, walk-end, good-walk, bad-walk, ending-walked, records-walked}
