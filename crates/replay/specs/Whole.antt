@@ -1,15 +1,16 @@
--- The whole replay of a journal: its transcript, what turns write one after another, and what of it the public fields decide.
+-- The whole replay of a journal: its transcript, the keeper that it leaves, what turns write one after another, and what of it the public
+-- fields decide.
 use mathlib.Core.Bool.{Bool, true, false}
 use mathlib.Core.List.{List, [], _∷_, _++_, map}
 use Prim.Native.Nat.{ℕ, zero, suc, _-_}
 use lib.Dec.{eqb}
 use Rattle.ledger.specs.Choice.{pick}
-use Rattle.journal.specs.Header.{startOf}
+use Rattle.journal.specs.Header.{headerOf, startOf}
 use Rattle.journal.specs.Ending.{endingOf, recordsOf}
 use Rattle.transcript.specs.Lines.{endOf}
 use Rattle.keeper.specs.Record.{Outcome, fresh}
 use Rattle.keeper.specs.Calls.{Call}
-use Rattle.keeper.specs.Demands.{outcomes}
+use Rattle.keeper.specs.Demands.{outcomes, keeperAfter}
 use Rattle.keeper.specs.declared.Keeper.{Keeper}
 use Rattle.replay.specs.Running.{callOf, lineFor}
 use Rattle.replay.specs.Turns.{turnOf}
@@ -30,6 +31,10 @@ linesOf (o ∷ os) = lineFor o ++ linesOf os
 -- the transcript: the lines, and the end
 unfoldable pub transcriptOf : List ℕ → List ℕ
 transcriptOf j = linesOf (outcomesOf j) ++ endOf (endingOf j)
+
+-- the keeper that a replay leaves in a record; where the header is not good, the record stays as it was
+unfoldable pub replayed : List ℕ → Keeper → Keeper
+replayed j k = pick (eqb (headerOf j) 0) (keeperAfter (fresh (startOf j)) (callsOf j)) k
 
 -- what n turns write, stopping where a turn says that there is no more
 abbrev pub ifMore : {A : Type 0} → Bool → List A → List A

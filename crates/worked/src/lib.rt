@@ -1,3 +1,2 @@
-// Worked calls and transcripts: proofs/Computed.antt has the checker compute one whole call of each kind from the definitions,
-// proofs/Transcripts.antt whole journals to their transcripts. It stands apart from `keeper` and `replay` because computing 30 compressions
-// takes longer than proving what follows from the definitions.
+// Worked calls: proofs/Computed.antt has the checker compute one whole call of each kind from the definitions. It stands apart from
+// `keeper` because computing 30 compressions takes longer than proving what follows from the definitions.
