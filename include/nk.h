@@ -1,20 +1,21 @@
-/* The noise keeper, as C calls it.
+/* The noise keeper, as C calls it. docs/HEADER.md says for each sentence what holds it: a proof, a test, or the caller.
  *
  * A keeper is one record, struct nk_keeper, that the caller owns and lends to each call; the call changes it in place. There is no
  * other state: no heap, no globals, nothing to close. nk_make makes a keeper of any memory; the other six calls work on a keeper
- * that was made.
+ * that was made. examples/terminal/ is a terminal built on it.
  *
  * What goes in: device events and interrupts (noise that the keeper credits by its own estimate), writes (noise with no credit) and
  * seeds (noise with the credit that the caller names). What comes out: generator bytes (nk_read), once the keeper has been seeded,
- * and bytes of the blocking pool (nk_blocking_read), as many as were credited.
+ * and bytes of the blocking pool (nk_blocking_read), as far as its credit goes.
  *
  * THE ANSWER. Each call returns four numbers by value. `number` is NK_DONE or the reason for a refusal. `delivered` is how many bytes a
  * read put at the start of its room; 0 for all other calls. `blocks` and `compressions` are the ChaCha20 blocks and SHA-1
- * compressions that this call ran, whatever they were for: a measure of its time.
+ * compressions that this call ran, whatever they were for. They are not its time: mixing is not counted.
  *
  * REFUSALS. A refused call leaves the record and the room as they were, to the last byte, and answers 0 for delivered, blocks and
- * compressions. Where several reasons hold, the number is the first in the order that stands at the call below. NK_OUT_OF_RANGE
- * comes first everywhere, but for nk_make, which does not look at what the record held.
+ * compressions. (That the four bytes of padding in the record stay is tested and not proved.) Where several reasons hold, the number
+ * is the first in the order that stands at the call below. NK_OUT_OF_RANGE comes first everywhere, but for nk_make, which does not look
+ * at what the record held.
  *
  * NK_OUT_OF_RANGE says that the record is damaged or was never made. It is answered exactly if
  *   - a count is above its pool's size (input 32,768, blocking 8,192, in eighths of a bit),
@@ -23,25 +24,52 @@
  *   - one of `firsts` is outside -2^31 to 2^31 - 1, or one of `seconds` outside -(2^32 - 1) to 2^32 - 1,
  *   - one of generator words 0 to 3 is not the cipher's constant.
  * Every other bit pattern is a keeper in range. No record, whatever its bytes, makes a call do anything undefined. The only cure is
- * nk_make. The mark `seeded` is not part of this test: 1 is seeded, and any other number is read as unseeded.
+ * nk_make, from start bytes that were never used. The mark `seeded` is not part of this test: 1 is seeded, and any other number is read
+ * as unseeded. So damage that leaves every field in range is not seen: a count that grew, or a mark that became 1.
  *
- * MEMORY. The record wants the alignment of struct nk_keeper, 8 bytes; bytes and rooms want none. No pointer may be null, not even
- * one that comes with a length of 0. A pointer with a length stands for so many bytes, and all of them must be the caller's, also
- * where the length is one that will be refused. Record, room and bytes must not overlap. A call writes the record, and the delivered
- * bytes of a room; it reads the bytes that are fed and keeps no pointer once it has returned.
+ * MEMORY. The record wants the alignment of struct nk_keeper, 8 bytes; bytes and rooms want none. It must lie where it can be written:
+ * a refused call too stores the ledger back as it found it. No pointer may be null, not even one that comes with a length of 0. A
+ * pointer with a length stands for so many bytes, and all of them must be the caller's, also where the length is one that will be
+ * refused. Record, room and bytes must not overlap. A call writes the record, and the delivered bytes of a room; it reads the bytes that
+ * are fed and keeps no pointer once it has returned.
  *
- * THREADS. One caller at a time for each record. An interrupt handler must not call the keeper while a call on the same record is
- * under way: let it leave its numbers for the main loop, or shut interrupts out around each call. Two records have nothing in common.
- *
- * CLOCKS. `now` is a free-running 32-bit clock of 1,000 ticks a second. It may wrap, and it may run back: a difference of two
- * clocks is taken modulo 2^32 and read as signed.
- *
- * STACK AND LINKING. A call uses at most 1,536 bytes of stack on x86-64 (tests/stack.c measures it). It needs the C library's memcpy,
- * memmove and memset, which a compiler may call, and nothing else.
+ * COPIES. Two copies of a record hand out the same bytes. Never copy a record, and never let it be copied: no fork, no snapshot, no
+ * image of memory that is restored. A record that is no longer used has to be wiped.
  *
  * SECRETS. The words of the pools, of the fast pool and of the generator are secret, but for the generator's four constants: do not
- * print, store or send a record. What a call answers depends on the other fields and on the call's numbers and lengths, and never on
- * a secret word or on a byte that is fed. */
+ * print, store or send a record. What a call answers depends on the other fields and on the call's numbers and lengths, and never on a
+ * secret word, a stamp, an address or a byte that is fed. About time nothing is promised. A call does not clean up behind itself: after
+ * a read of 32 bytes all of them are on the stack below the caller, and so is the key that they came from; registers may hold secrets
+ * too. Where that matters, clear NK_STACK_MOST bytes of stack (examples/terminal/forget.c).
+ *
+ * THREADS. One caller at a time for each record. An interrupt handler must not call the keeper while a call on the same record is
+ * under way, not even a call that will be refused: let it leave its numbers for the main loop, or shut interrupts out around each call.
+ * Two records have nothing in common.
+ *
+ * THE MOST WORK OF ONE CALL, for whoever shuts interrupts out around it. Bytes that are mixed are the part that `blocks` and
+ * `compressions` do not tell; each time a pool is hashed (8 compressions of the input pool, 2 of the blocking pool) 20 more are mixed.
+ *   nk_make            no work: the record is stored
+ *   nk_event           16 bytes mixed; if it seeds, 32 compressions
+ *   nk_interrupt       the same
+ *   nk_write           4,096 bytes mixed
+ *   nk_seed            4,096 bytes mixed; if it seeds, 32 compressions
+ *   nk_read            65 blocks; if it seeds anew, 32 compressions
+ *   nk_blocking_read   130 compressions, 128 bytes mixed
+ *
+ * CLOCKS. `now` is a free-running 32-bit clock of 1,000 ticks a second. It may wrap, and it may run back: a difference of two clocks is
+ * taken modulo 2^32 and read as signed, so one of 2^31 ticks or more (24.8 days) reads as a clock that ran back. Then
+ *   - no read seeds anew: not while the last seeding was 2^31 to 2^32 + 300,000 ticks ago (24.8 to 49.7 days), and by a clock that did
+ *     run back not until it is 300,001 ticks past the last seeding;
+ *   - no time makes interrupts spill, but the 64th of them does, and time is counted anew from there.
+ *
+ * MACHINE. The archive, liblent.a, is for x86-64: little endian, pointers and lengths of 8 bytes, calls as the System V ABI has them. It
+ * links to memcpy, memmove and memset, which a compiler may call, and to nothing else. A call uses at most NK_STACK_MOST bytes of stack
+ * and relies on what the ABI gives to a program under an operating system. On a bare controller that is the caller's to set up:
+ *   - The stack pointer is a multiple of 16 at the call.
+ *   - SSE2 is on before the first call (CR0.EM and CR0.TS clear, CR4.OSFXSR set). AVX is not used.
+ *   - The 128 bytes below the stack pointer belong to the call. A processor that takes an interrupt on the same stack writes over
+ *     them, so an interrupt that may come during a call needs a stack of its own (an IST entry), or has to be shut out.
+ *   - A handler or a change of tasks that uses vector registers saves them first and puts them back. */
 #ifndef NK_H
 #define NK_H
 
@@ -55,6 +83,16 @@ extern "C" {
 #define NK_HOLDS(fact) _Static_assert(fact, #fact)
 #endif
 
+/* An answer that has to be looked at: the compiler warns where it is not. Who does not look may use bytes that are not there, or count
+ * on a seed that was refused. The answers of the other calls may be passed over: no byte and no credit hangs on them. */
+#if (defined __cplusplus && __cplusplus >= 201703L) || (defined __STDC_VERSION__ && __STDC_VERSION__ > 201710L)
+#define NK_LOOK [[nodiscard]]
+#elif defined __GNUC__
+#define NK_LOOK __attribute__((warn_unused_result))
+#else
+#define NK_LOOK
+#endif
+
 /* What a call answers. */
 enum {
     NK_DONE = 0,
@@ -65,13 +103,14 @@ enum {
     NK_CREDIT_TOO_HIGH = 5, /* a seed's credit above 8 bits for each of its bytes */
     NK_START_NOT_48 = 6,    /* a making from another number of bytes than 48 */
     NK_REPEATED = 7,        /* device 0 told the same value again */
-    NK_OUT_OF_RANGE = 17    /* the record is no keeper's; see above */
+    NK_OUT_OF_RANGE = 17    /* the record is damaged: wipe it, and make a keeper from a new start */
 };
 
 enum {
     NK_DEVICES = 16,
     NK_START_LENGTH = 48,
-    NK_LENGTH_MOST = 4096 /* of a write, a seed or a read */
+    NK_LENGTH_MOST = 4096, /* of a write, a seed or a read */
+    NK_STACK_MOST = 1536   /* bytes of stack that a call may use */
 };
 
 /* Where a pool's next byte goes: its position and its rotation. */
@@ -114,7 +153,10 @@ struct nk_answer {
     uint32_t compressions;
 };
 
-/* The archive was compiled for this layout; a compiler that lays the record out in another way must not link it. */
+/* The archive was compiled for this layout; a compiler that lays the record out in another way must not link it. A machine of 32 bits may
+ * lay it out in the same way, and would hand over lengths and pointers of four bytes where eight are read. */
+NK_HOLDS(sizeof(size_t) == 8);
+NK_HOLDS(sizeof(void *) == 8);
 NK_HOLDS(sizeof(struct nk_spot) == 8);
 NK_HOLDS(sizeof(struct nk_ledger) == 44);
 NK_HOLDS(offsetof(struct nk_ledger, input_count) == 0);
@@ -142,11 +184,13 @@ NK_HOLDS(offsetof(struct nk_answer, blocks) == 8);
 NK_HOLDS(offsetof(struct nk_answer, compressions) == 12);
 #undef NK_HOLDS
 
-/* Makes a keeper of the record, whatever the record held: pools, counts, timers and marks zero, unseeded, the generator's key and
- * counter words from the 48 start bytes. The start bytes should differ from device to device and from start to start; they count
- * for no credit.
+/* Makes a keeper of the record, whatever the record held: pools, counts, timers and marks zero, unseeded, the generator's other words
+ * from the 48 start bytes. Bytes 0 to 31 are its key, 32 to 39 its block counter; 40 to 47 stay as they are for good, so keepers that
+ * differ there never run the cipher on the same input. The start bytes count for no credit.
+ * Never use the same start bytes twice, on this device or another: two keepers made from them and fed alike hand out the same bytes.
+ * And write them as well (nk_write): the pools do not know of them, and blocking reads come from the pools.
  * Refused: NK_START_NOT_48. The record then stays as it was, and is a keeper only if it was one before. */
-struct nk_answer nk_make(struct nk_keeper *k, const uint8_t *start, size_t start_len);
+NK_LOOK struct nk_answer nk_make(struct nk_keeper *k, const uint8_t *start, size_t start_len);
 
 /* Something happened on a device: `stamp` is the finest counter at hand, `value` what the device told (a key's code, a sector).
  * Stamp, clock and value are mixed into the input pool. The credit, 0 to 11 bits, comes from how irregular the device's clocks are,
@@ -157,8 +201,8 @@ struct nk_answer nk_make(struct nk_keeper *k, const uint8_t *start, size_t start
 struct nk_answer nk_event(struct nk_keeper *k, uint32_t device, uint32_t now, uint64_t stamp, uint32_t value);
 
 /* An interrupt came: its number, and the address of the instruction that it broke into. The numbers are stirred into the fast pool.
- * At every 64th interrupt, or when more than 1,000 ticks went by since the last time, the fast pool spills into the input pool for a
- * credit of 1 bit; an unseeded keeper that then has 128 bits is seeded at once. A clock that ran back does not spill.
+ * At the 64th interrupt since the last time, whatever the clock, or when more than 1,000 ticks went by since then, the fast pool spills
+ * into the input pool for a credit of 1 bit; an unseeded keeper that then has 128 bits is seeded at once.
  * Refused: NK_OUT_OF_RANGE. */
 struct nk_answer nk_interrupt(struct nk_keeper *k, uint32_t now, uint32_t number, uint64_t stamp, uint64_t address);
 
@@ -167,17 +211,18 @@ struct nk_answer nk_interrupt(struct nk_keeper *k, uint32_t now, uint32_t number
 struct nk_answer nk_write(struct nk_keeper *k, const uint8_t *bytes, size_t len);
 
 /* Mixes `len` bytes, 0 to 4,096, into the input pool, then credits the pool with `credit` bits: how much of the bytes nobody can guess.
- * The count rises by less than was credited, the less the fuller the pool is. An unseeded keeper that has 128 bits of credit after
- * this is seeded at once; a credit of 0 never seeds.
+ * The count rises by at most three quarters of the credit, and by less the fuller the pool is: 171 bits are the least that seed an empty
+ * one. An unseeded keeper that has 128 bits after this is seeded at once; a credit of 0 never seeds.
+ * Credit the same bytes only once: a seed that is stored has to be erased before it is used.
  * Refused, in this order: NK_OUT_OF_RANGE; NK_TOO_LONG; NK_CREDIT_TOO_HIGH, credit above 8 x len. */
-struct nk_answer nk_seed(struct nk_keeper *k, uint32_t now, const uint8_t *bytes, size_t len, uint32_t credit);
+NK_LOOK struct nk_answer nk_seed(struct nk_keeper *k, uint32_t now, const uint8_t *bytes, size_t len, uint32_t credit);
 
 /* Fills the room with generator bytes: all of it, so `delivered` is `len`. Each read ends by changing the generator's key, so that
  * a record that is stolen later does not tell what was read. Where more than 300,000 ticks went by since the last seeding and the
  * input pool has 128 bits, the generator is seeded anew first.
  * A length of 0 is NK_DONE and changes nothing, seeded or not.
  * Refused, in this order: NK_OUT_OF_RANGE; NK_TOO_LONG; NK_UNSEEDED. */
-struct nk_answer nk_read(struct nk_keeper *k, uint32_t now, uint8_t *out, size_t len);
+NK_LOOK struct nk_answer nk_read(struct nk_keeper *k, uint32_t now, uint8_t *out, size_t len);
 
 /* Hands out bytes of the blocking pool, up to `len` and no more than its credit covers; `delivered` says how many, at least 1 where
  * `len` is at least 1. Where the blocking pool has too little, bytes are first brought over from the input pool, 8 to 128, if the
@@ -186,7 +231,9 @@ struct nk_answer nk_read(struct nk_keeper *k, uint32_t now, uint8_t *out, size_t
  * A length of 0 is NK_DONE and changes nothing.
  * Refused, in this order: NK_OUT_OF_RANGE; NK_TOO_LONG; NK_WOULD_BLOCK, exactly if the blocking count is below 64 and the input count
  * below 512. */
-struct nk_answer nk_blocking_read(struct nk_keeper *k, uint8_t *out, size_t len);
+NK_LOOK struct nk_answer nk_blocking_read(struct nk_keeper *k, uint8_t *out, size_t len);
+
+#undef NK_LOOK
 
 #ifdef __cplusplus
 }

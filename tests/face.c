@@ -1,10 +1,9 @@
 /* The C test of the keeper: every call of nk.h through the archive, as a C program meets it.
  *
  * Each call is made twice from the same record, by the archive and by the plain keeper of bench/plain_keeper.c, in guarded memory;
- * then every byte is compared. What the header promises is checked by itself as well, so that an error that both share shows. A
- * group is one line of output; the last line counts the groups. The argument, if any, is the seed of the random calls. */
+ * then every byte is compared. What the header promises is checked by itself as well, so that an error that both share shows. The
+ * argument, if any, is the seed of the random calls. */
 #include <inttypes.h>
-#include <stdarg.h>
 #include <stdio.h>
 #include <stdlib.h>
 #include <string.h>
@@ -12,54 +11,11 @@
 #include "../bench/plain.h"
 #include "../bench/plain_keeper.h"
 #include "../include/nk.h"
+#include "chance.h"
+#include "damage.h"
+#include "groups.h"
 
-enum { GUARD = 64, LONGEST = 5000, SHIFTS = 16, RANDOM_CALLS = 6000, SHOWN = 8 };
-
-/* Groups and checks. */
-
-static unsigned groups_passed, groups_failed, checks, faults;
-static const char *group;
-
-static void begin(const char *name) {
-    group = name;
-    checks = faults = 0;
-}
-
-static void end(void) {
-    if (faults == 0) groups_passed++; else groups_failed++;
-    printf("%s: %s, %u checks", faults ? "FAILED" : "ok", group, checks);
-    if (faults) printf(", %u of them failed", faults);
-    puts("");
-}
-
-static int check(int holds, const char *what, ...) {
-    checks++;
-    if (holds) return 1;
-    if (++faults <= SHOWN) {
-        va_list words;
-        va_start(words, what);
-        printf("  %s: ", group);
-        vprintf(what, words);
-        puts("");
-        va_end(words);
-    }
-    return 0;
-}
-
-/* Random numbers that a seed repeats. */
-
-static uint64_t seed = 7539, chance_at;
-
-static uint64_t chance(void) {
-    uint64_t z = chance_at += 0x9e3779b97f4a7c15u;
-    z = (z ^ z >> 30) * 0xbf58476d1ce4e5b9u;
-    z = (z ^ z >> 27) * 0x94d049bb133111ebu;
-    return z ^ z >> 31;
-}
-
-static uint32_t below(uint32_t n) {
-    return (uint32_t)(chance() >> 32) % n;
-}
+enum { GUARD = 64, LONGEST = 5000, SHIFTS = 16, RANDOM_CALLS = 6000 };
 
 /* A call, of either side. */
 
@@ -72,6 +28,10 @@ struct call {
     uint64_t stamp, address;
     size_t len;
 };
+
+/* The most work of one call, as the header has it. */
+static const struct { uint32_t blocks, compressions; } most_work[] = {[EVENT] = {0, 32}, [INTERRUPT] = {0, 32}, [WRITE] = {0, 0},
+    [SEED] = {0, 32}, [READ] = {65, 32}, [BLOCKING_READ] = {0, 130}, [MAKE] = {0, 0}};
 
 static int is_read(enum kind kind) {
     return kind == READ || kind == BLOCKING_READ;
@@ -117,11 +77,13 @@ static void lend_memory(void) {
         }
 }
 
-/* All fields alike. The padding between clocks and firsts may be anything where a call was not refused. */
+/* The four bytes between clocks and firsts. */
+enum { PADDING = offsetof(struct nk_keeper, clocks) + sizeof(uint32_t[16]), PADDING_END = offsetof(struct nk_keeper, firsts) };
+
+/* All fields alike; the padding may differ. */
 static int same_fields(const struct nk_keeper *a, const struct nk_keeper *b) {
     const uint8_t *x = (const uint8_t *)a, *y = (const uint8_t *)b;
-    size_t until = offsetof(struct nk_keeper, clocks) + sizeof a->clocks, from = offsetof(struct nk_keeper, firsts);
-    return memcmp(x, y, until) == 0 && memcmp(x + from, y + from, sizeof *a - from) == 0;
+    return memcmp(x, y, PADDING) == 0 && memcmp(x + PADDING_END, y + PADDING_END, sizeof *a - PADDING_END) == 0;
 }
 
 static uint64_t counter(const struct nk_keeper *k) {
@@ -171,9 +133,13 @@ static struct nk_answer try_on(struct nk_keeper *k, struct call c, const uint8_t
         check(memcmp(area_proved, area_as_lent, AREA) == 0, "%s: refused, and the room changed", what);
         check(a.delivered == 0 && a.blocks == 0 && a.compressions == 0, "%s: refused, and work reported", what);
     }
+    check(memcmp((uint8_t *)l + PADDING, (uint8_t *)k + PADDING, PADDING_END - PADDING) == 0, "%s: the padding changed", what);
+    check(a.blocks <= most_work[c.kind].blocks && a.compressions <= most_work[c.kind].compressions,
+        "%s: %u blocks and %u compressions, more than the header allows", what, a.blocks, a.compressions);
     if (c.kind != MAKE) {
         uint64_t moved = counter(l) - counter(k);
         check(moved == a.blocks, "%s: the counter moved by %" PRIu64 ", and %u blocks are reported", what, moved, a.blocks);
+        check(memcmp(l->generator + 14, k->generator + 14, 8) == 0, "%s: generator words 14 and 15 changed", what);
     }
     memcpy(k, l, sizeof *k);
     return a;
@@ -221,7 +187,7 @@ static void make(struct nk_keeper *k) {
     uint8_t start[NK_START_LENGTH];
     for (int i = 0; i < NK_START_LENGTH; i++) start[i] = (uint8_t)(3 * i + 1);
     memset(k, 0, sizeof *k);
-    nk_make(k, start, sizeof start);
+    check(nk_make(k, start, sizeof start).number == NK_DONE, "a keeper is not made");
 }
 
 /* A made keeper with both pools well filled, seeded at clock 5,000. */
@@ -229,8 +195,7 @@ static void make_ready(struct nk_keeper *k) {
     uint8_t noise[512];
     make(k);
     for (size_t i = 0; i < sizeof noise; i++) noise[i] = (uint8_t)(i * 37 + 11);
-    nk_seed(k, 5000, noise, sizeof noise, 4096);
-    nk_seed(k, 5000, noise, sizeof noise, 4096);
+    for (int i = 0; i < 2; i++) check(nk_seed(k, 5000, noise, sizeof noise, 4096).number == NK_DONE, "a seed is refused");
     k->ledger.blocking_count = 4096;
     for (int i = 0; i < 32; i++) k->blocking[i] = 0x9e3779b9u * (uint32_t)(i + 1);
 }
@@ -262,38 +227,6 @@ static void random_record(struct nk_keeper *k) {
         k->firsts[i] = below(4) ? (int32_t)chance() : below(2) ? INT32_MIN : INT32_MAX;
         k->seconds[i] = below(4) ? (int64_t)(chance() >> 32) - (int64_t)(chance() >> 32) : below(2) ? -4294967295 : 4294967295;
     }
-}
-
-/* One way to be out of range; 0 where there is no such way. */
-static int damage(struct nk_keeper *k, unsigned way) {
-    struct nk_ledger *l = &k->ledger;
-    switch (way) {
-    case 0: l->input_count = 32769; return 1;
-    case 1: l->input_count = UINT32_MAX; return 1;
-    case 2: l->blocking_count = 8193; return 1;
-    case 3: l->blocking_count = UINT32_MAX; return 1;
-    case 4: l->input_spot.at = 128; return 1;
-    case 5: l->input_spot.at = UINT32_MAX; return 1;
-    case 6: l->blocking_spot.at = 32; return 1;
-    case 7: l->blocking_spot.at = UINT32_MAX; return 1;
-    case 8: l->input_spot.turn = 32; return 1;
-    case 9: l->input_spot.turn = UINT32_MAX; return 1;
-    case 10: l->blocking_spot.turn = 32; return 1;
-    case 11: l->blocking_spot.turn = UINT32_MAX; return 1;
-    case 12: l->tally = 64; return 1;
-    case 13: l->tally = UINT32_MAX; return 1;
-    default: way -= 14;
-    }
-    static const int64_t firsts[4] = {-2147483649, 2147483648, INT64_MIN, INT64_MAX};
-    static const int64_t seconds[4] = {-4294967296, 4294967296, INT64_MIN, INT64_MAX};
-    if (way < 64) { k->firsts[way / 4] = firsts[way % 4]; return 1; }
-    way -= 64;
-    if (way < 64) { k->seconds[way / 4] = seconds[way % 4]; return 1; }
-    way -= 64;
-    if (way < 128) { k->generator[way / 32] ^= 1u << way % 32; return 1; }
-    way -= 128;
-    if (way < 4) { k->generator[way] = 0; return 1; }
-    return 0;
 }
 
 /* One field at the very edge of its range; 0 where there is no such way. */
@@ -401,7 +334,7 @@ static void yardsticks(void) {
     for (uint8_t i = 0; i < 32; i++) start[i] = i;
     memcpy(start + 32, tail, sizeof tail);
     struct nk_keeper k = {0};
-    nk_make(&k, start, sizeof start);
+    check(nk_make(&k, start, sizeof start).number == NK_DONE, "a keeper is not made");
     plain_chacha(k.generator, out);
     check(memcmp(out, block, 64) == 0, "the plain ChaCha20 block");
     k.ledger.seeded = 1;
@@ -566,10 +499,10 @@ static void out_of_range(void) {
     struct nk_keeper ready, k;
     make_ready(&ready);
     for (unsigned unseeded = 0; unseeded < 2; unseeded++)
-        for (unsigned way = 0;; way++) {
+        for (unsigned way = 0; way < DAMAGES; way++) {
             k = ready;
             k.ledger.seeded = !unseeded;
-            if (!damage(&k, way)) break;
+            check(damage(&k, way), "there is no damage %u", way);
             struct nk_keeper damaged = k;
             for (size_t i = 0; i < sizeof at_damage / sizeof *at_damage; i++) {
                 struct nk_answer a = try(&k, at_damage[i]);
@@ -673,7 +606,7 @@ static void worked_cases(void) {
     ANSWERED(a, NK_DONE, 32, 1, 16);
     COUNTS(k, 0, 0);
 
-    /* a spill comes at 1,001 ticks and not at 1,000, at the 64th interrupt, and not by a clock that ran back */
+    /* a spill comes at 1,001 ticks and not at 1,000, and at the 64th interrupt; a clock that ran back is no long wait */
     make(&k);
     for (uint32_t i = 1; i <= 63; i++) {
         a = try(&k, interrupt_at(i == 5 ? 0xffffff00u : i == 6 ? 0x80000000u : 1000));
@@ -743,6 +676,102 @@ static void worked_cases(void) {
     end();
 }
 
+/* What the header says beyond the single calls. */
+static void header_says(void) {
+    struct nk_keeper ready, k;
+    struct nk_answer a;
+    make_ready(&ready);
+
+    begin("the most work of one call is reached");
+    struct nk_keeper full = ready;
+    full.ledger.input_count = 32768;
+    full.ledger.blocking_count = 8192;
+    static const struct call most[] = {
+        {.kind = EVENT, .device = 3, .now = 9000, .value = 1},
+        {.kind = INTERRUPT, .now = 9000},
+        {.kind = WRITE, .len = 4096},
+        {.kind = SEED, .now = 9000, .len = 4096, .credit = 32768},
+        {.kind = READ, .now = 900000, .len = 4096},
+        {.kind = BLOCKING_READ, .len = 129},
+        {.kind = BLOCKING_READ, .len = 4096},
+    };
+    for (size_t i = 0; i < sizeof most / sizeof *most; i++) {
+        k = full;
+        k.ledger.seeded = is_read(most[i].kind);
+        a = try(&k, most[i]);
+        ANSWERED(a, NK_DONE, most[i].kind == READ ? 4096 : most[i].kind == BLOCKING_READ ? 128 : 0, most_work[most[i].kind].blocks,
+            most_work[most[i].kind].compressions);
+    }
+    end();
+
+    begin("a clock that is half its range ahead reads as one that ran back");
+    static const struct { uint32_t gap; int due; } gaps[] = {{0, 0}, {1, 0}, {300000, 0}, {300001, 1}, {0x40000000, 1}, {0x7fffffff, 1},
+        {0x80000000, 0}, {0x80000001, 0}, {0xc0000000, 0}, {0xffffffff, 0}};
+    static const uint32_t seeded_at[] = {0, 5000, 0x7fffffff, 0xfffffff0};
+    for (size_t s = 0; s < sizeof seeded_at / sizeof *seeded_at; s++)
+        for (size_t i = 0; i < sizeof gaps / sizeof *gaps; i++) {
+            uint32_t now = seeded_at[s] + gaps[i].gap;
+            k = ready;
+            k.ledger.seeding_clock = seeded_at[s];
+            a = try(&k, read_of(32, now));
+            check((a.compressions > 0) == gaps[i].due, "a read %u ticks after a seeding at %u: %u compressions", gaps[i].gap, seeded_at[s],
+                a.compressions);
+            check(k.ledger.seeding_clock == (gaps[i].due ? now : seeded_at[s]), "the seeding clock after it");
+
+            k = ready;
+            k.ledger.last_spill = seeded_at[s];
+            int timed = gaps[i].gap > 1000 && gaps[i].gap < 0x80000000;
+            for (uint32_t n = 1; n < 64 && !timed; n++) {
+                a = try(&k, interrupt_at(now));
+                check(k.ledger.tally == n, "interrupt %u, %u ticks after a spill, spills", n, gaps[i].gap);
+            }
+            a = try(&k, interrupt_at(now));
+            check(k.ledger.tally == 0 && k.ledger.last_spill == now, "interrupt %d, %u ticks after a spill, does not spill", timed ? 1 : 64,
+                gaps[i].gap);
+            a = try(&k, interrupt_at(now + 1000));
+            check(k.ledger.tally == 1, "1,000 ticks after that spill");
+            a = try(&k, interrupt_at(now + 1001));
+            check(k.ledger.tally == 0, "1,001 ticks after that spill");
+        }
+    end();
+
+    begin("copies, start bytes and seeds");
+    uint8_t one[64], other[64], start[NK_START_LENGTH] = {0};
+    struct nk_keeper copy = k = ready;
+    check(nk_read(&k, 6000, one, 64).number == NK_DONE && nk_read(&copy, 6000, other, 64).number == NK_DONE, "reads of a copy");
+    check(memcmp(one, other, 64) == 0, "two copies of a record hand out different bytes");
+    check(nk_blocking_read(&k, one, 64).delivered == 64 && nk_blocking_read(&copy, other, 64).delivered == 64, "blocking reads of a copy");
+    check(memcmp(one, other, 64) == 0, "two copies of a record hand out different blocking bytes");
+    /* keepers that are fed alike: by the same start bytes, by others, and by others that are written too */
+    for (int way = 0; way < 3; way++) {
+        struct nk_keeper *const both[2] = {&k, &copy};
+        uint8_t *const rooms[2] = {one, other}, blocking[2][20];
+        for (uint8_t i = 0; i < 2; i++) {
+            start[40] = way > 0 ? i : 0;
+            check(nk_make(both[i], start, sizeof start).number == NK_DONE, "a keeper is not made");
+            if (way == 2) nk_write(both[i], start, sizeof start);
+            check(nk_seed(both[i], 7, (const uint8_t *)ready.input, 512, 4096).number == NK_DONE, "a seed is refused");
+            check(nk_read(both[i], 8, rooms[i], 64).number == NK_DONE, "a read is refused");
+            check(nk_blocking_read(both[i], blocking[i], 20).number == NK_DONE, "a blocking read is refused");
+        }
+        check((memcmp(one, other, 64) == 0) == (way == 0), "way %d: keepers fed alike", way);
+        check((memcmp(blocking[0], blocking[1], 12) == 0) == (way < 2), "way %d: blocking bytes of keepers fed alike", way);
+    }
+    /* crediting: at most three quarters, and the less the fuller the pool is */
+    for (uint32_t bits = 1; bits <= 32768; bits = bits * 3 / 2 + 1) {
+        uint32_t last = UINT32_MAX;
+        for (uint32_t count = 0; count <= 32768; count += 512) {
+            k = ready;
+            k.ledger.input_count = count;
+            a = try(&k, seed_of(4096, bits, 6000));
+            uint32_t added = k.ledger.input_count - count;
+            check(added <= 6 * bits && added <= last, "%u bits onto %u: %u added", bits, count, added);
+            last = added;
+        }
+    }
+    end();
+}
+
 /* 0 to 300, then 4,095 to 4,097 */
 static size_t next_length(size_t len) {
     return len == 300 ? 4095 : len + 1;
@@ -809,7 +838,7 @@ static size_t random_length(void) {
     return below(8) == 0 ? 4090 + below(10) : below(4) ? below(140) : below(1100);
 }
 
-static void random_calls(void) {
+static void random_calls(uint64_t seed) {
     unsigned seen[8] = {0}, damaged = 0;
     char name[80];
     snprintf(name, sizeof name, "%d random calls, seed %" PRIu64, RANDOM_CALLS, seed);
@@ -822,7 +851,7 @@ static void random_calls(void) {
         if (fresh == 1) random_record(&k);
         if (below(12) == 0) {
             struct nk_keeper whole = k;
-            if (!damage(&k, below(274))) k = whole;
+            damage(&k, below(DAMAGES));
             struct nk_keeper hurt = k;
             struct call c = at_damage[below(sizeof at_damage / sizeof *at_damage)];
             struct nk_answer a = try(&k, c);
@@ -855,7 +884,7 @@ static void random_calls(void) {
 }
 
 int main(int argc, char **argv) {
-    if (argc > 1) seed = strtoull(argv[1], NULL, 0);
+    uint64_t seed = argc > 1 ? strtoull(argv[1], NULL, 0) : 7539;
     chance_at = seed;
     lend_memory();
     layout();
@@ -864,8 +893,8 @@ int main(int argc, char **argv) {
     refusals();
     out_of_range();
     worked_cases();
+    header_says();
     lengths();
-    random_calls();
-    printf("%u passed, %u failed\n", groups_passed, groups_failed);
-    return groups_failed ? 1 : 0;
+    random_calls(seed);
+    return counted();
 }

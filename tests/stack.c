@@ -3,20 +3,14 @@
  * several situations, the one with the longest way among them, and the most counts. Bytes that a function sets aside and never writes
  * are not seen.
  *
- * Fails where a call uses more than the limit on x86-64; on another processor the table is all there is. */
+ * Fails where a call uses more than NK_STACK_MOST on x86-64; on another processor the table is all there is. */
 #define _XOPEN_SOURCE 700
 #include <stdint.h>
 #include <stdio.h>
-#include <stdlib.h>
-#include <string.h>
-#include <ucontext.h>
 
 #include "../include/nk.h"
+#include "own_stack.h"
 
-enum { LIMIT = 1536, STACK = 65536 };
-
-static _Alignas(64) uint8_t stack[STACK];
-static ucontext_t outside, inside;
 static struct nk_keeper keeper;
 static struct nk_answer answer;
 static uint8_t bytes[4097];
@@ -90,7 +84,10 @@ static const struct situation situations[] = {
 
 static void ready(void) {
     for (size_t i = 0; i < sizeof bytes; i++) bytes[i] = (uint8_t)(i * 37 + 11);
-    nk_make(&keeper, bytes, 48);
+    if (nk_make(&keeper, bytes, 48).number != NK_DONE) {
+        puts("FAILED: a keeper is not made");
+        exit(1);
+    }
     keeper.ledger.input_count = 30000;
     keeper.ledger.blocking_count = 4000;
     keeper.ledger.seeded = 1;
@@ -98,16 +95,10 @@ static void ready(void) {
 }
 
 static size_t used_over(void (*call)(void), uint8_t pattern) {
-    memset(stack, pattern, sizeof stack);
-    if (getcontext(&inside) != 0) return STACK;
-    inside.uc_stack.ss_sp = stack;
-    inside.uc_stack.ss_size = sizeof stack;
-    inside.uc_link = &outside;
-    makecontext(&inside, call, 0);
-    if (swapcontext(&outside, &inside) != 0) return STACK;
+    on_own_stack(call, pattern);
     size_t low = 0;
-    while (low < sizeof stack && stack[low] == pattern) low++;
-    return sizeof stack - low;
+    while (low < sizeof own_stack && own_stack[low] == pattern) low++;
+    return sizeof own_stack - low;
 }
 
 /* A byte that happens to equal one pattern does not equal the other. */
@@ -138,12 +129,12 @@ int main(void) {
             if (u > most) most = u;
             right &= answer.number == situations[i].number && (answer.compressions > 0) == situations[i].hashes;
         } while (++i < count && !situations[i].name);
-        int good = right && (!held || most <= LIMIT);
+        int good = right && (!held || most <= NK_STACK_MOST);
         if (good) passed++; else failed++;
         printf("%-20s %14zu%s%s\n", name, most, right ? "" : "  FAILED: another answer than expected",
-            most > LIMIT && held ? "  FAILED: over the limit" : "");
+            most > NK_STACK_MOST && held ? "  FAILED: over the limit" : "");
     }
-    if (held) printf("limit %d bytes; ", LIMIT); else printf("the limit of %d bytes is for x86-64; ", LIMIT);
+    if (held) printf("limit %d bytes; ", NK_STACK_MOST); else printf("the limit of %d bytes is for x86-64; ", NK_STACK_MOST);
     printf("a call that does nothing used %zu, and that is subtracted\n", none);
     printf("%u passed, %u failed\n", passed, failed);
     return failed ? 1 : 0;
