@@ -1,0 +1,30 @@
+// nk.h in a C++ program: the record and the answer are the same, and the calls link and answer as in C. It uses nothing of the C++ library.
+#include "../include/nk.h"
+
+namespace {
+
+unsigned faults;
+
+void expect(const nk_answer &a, uint32_t number, uint32_t delivered, uint32_t blocks, uint32_t compressions) {
+    if (a.number != number || a.delivered != delivered || a.blocks != blocks || a.compressions != compressions) faults++;
+}
+
+} // namespace
+
+extern "C" unsigned faults_from_cxx() {
+    static nk_keeper k;
+    uint8_t start[NK_START_LENGTH] = {}, seed[512] = {}, room[64] = {};
+    faults = 0;
+    expect(nk_read(&k, 0, room, 0), NK_OUT_OF_RANGE, 0, 0, 0);
+    expect(nk_make(&k, start, 47), NK_START_NOT_48, 0, 0, 0);
+    expect(nk_make(&k, start, sizeof start), NK_DONE, 0, 0, 0);
+    expect(nk_read(&k, 0, room, 4), NK_UNSEEDED, 0, 0, 0);
+    expect(nk_event(&k, 0, 1024, 1, 0), NK_REPEATED, 0, 0, 0);
+    expect(nk_interrupt(&k, 5, 1, 2, 3), NK_DONE, 0, 0, 0);
+    expect(nk_write(&k, seed, sizeof seed), NK_DONE, 0, 0, 0);
+    expect(nk_seed(&k, 7, seed, sizeof seed, 4096), NK_DONE, 0, 0, 32);
+    expect(nk_read(&k, 7, room, sizeof room), NK_DONE, 64, 2, 0);
+    expect(nk_blocking_read(&k, room, 16), NK_DONE, 12, 0, 20);
+    if (k.ledger.input_count != 16896 || k.ledger.seeding_clock != 7 || k.ledger.tally != 1) faults++;
+    return faults;
+}
