@@ -27,9 +27,9 @@
  * nk_make, from start bytes that were never used. The mark `seeded` is not part of this test: 1 is seeded, and any other number is read
  * as unseeded. So damage that leaves every field in range is not seen: a count that grew, or a mark that became 1.
  *
- * MEMORY. The record wants the alignment of struct nk_keeper, 8 bytes; bytes and rooms want none. It must lie where it can be written:
- * a refused call too stores the ledger back as it found it. No pointer may be null, not even one that comes with a length of 0. A
- * pointer with a length stands for so many bytes, and all of them must be the caller's, also where the length is one that will be
+ * MEMORY. The record wants the alignment of struct nk_keeper, 8 bytes; bytes and rooms want none. The record must lie where it can be
+ * written: a refused call too stores the ledger back as it found it. No pointer may be null, not even one that comes with a length of 0.
+ * A pointer with a length stands for so many bytes, and all of them must be the caller's, also where the length is one that will be
  * refused. Record, room and bytes must not overlap. A call writes the record, and the delivered bytes of a room; it reads the bytes that
  * are fed and keeps no pointer once it has returned.
  *
@@ -84,7 +84,8 @@ extern "C" {
 #endif
 
 /* An answer that has to be looked at: the compiler warns where it is not. Who does not look may use bytes that are not there, or count
- * on a seed that was refused. The answers of the other calls may be passed over: no byte and no credit hangs on them. */
+ * on a seed that was refused. What events, interrupts and writes answer may be passed over: nobody waits for what they bring, and a
+ * damaged record shows at the next read. */
 #if (defined __cplusplus && __cplusplus >= 201703L) || (defined __STDC_VERSION__ && __STDC_VERSION__ > 201710L)
 #define NK_LOOK [[nodiscard]]
 #elif defined __GNUC__
