@@ -55,13 +55,19 @@ back z h = toZ-ofZ (record { sfits = h })
 pub up : (n : ℕ) → n < 2 ^ 32 → toZ w64 n ≡ pos n
 up n h = toZ-pos w64 (omega arith)
 
--- the absolute amount, by the test of the sign
-pub turned : (x : ℤ) → ltZ x (pos 0) ≡ true → T (nonNeg (pos 0 -ℤ x)) × (natAbs (pos 0 -ℤ x) ≡ natAbs x)
-turned (pos n) e = absurd (not-below n (ltb-true n 0 e))
+-- the absolute amount, by the test of the sign: of a number below 0 it is one more than what all bits turned are
+turned-by : (z : ℤ) → mag z < 2 ^ 63 → ltZ z (pos 0) ≡ true → (n : ℕ) × ((n < 2 ^ 63) × ((2 ^ 64 - 1 - ofZ w64 z ≡ n) × (n + 1 ≡ natAbs z)))
+turned-by (pos n) h e = absurd (not-below n (ltb-true n 0 e))
   where
     not-below : (n : ℕ) → n < 0 → ⊥
     not-below n h = omega arith
-turned (negsuc n) e = (tt, omega arith)
+turned-by (negsuc n) h e = (n, (h, (omega arith, omega arith)))
+
+pub turned : (z : ℤ) → SFits w64 z → ltZ (toZ w64 (ofZ w64 z)) (pos 0) ≡ true
+    → (n : ℕ) × ((n < 2 ^ 63) × ((toZ w64 (2 ^ 64 - 1 - ofZ w64 z) ≡ pos n) × (n + 1 ≡ natAbs z)))
+turned z h e =
+    let t = turned-by z (h .sfits) (rw (toZ-ofZ h) at e) in
+    (t .0, (t .1 .0, (rw (t .1 .1 .0) (toZ-pos w64 (t .1 .0)), t .1 .1 .1)))
 
 pub unturned : (x : ℤ) → ltZ x (pos 0) ≡ false → T (nonNeg x)
 unturned (pos n) e = tt

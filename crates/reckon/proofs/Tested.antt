@@ -1,21 +1,19 @@
--- The range test as the code makes it: both limits of a number, and the timers from the first to the last in one pass.
+-- The range test as the code makes it: numbers that are below a power of two where a difference is in range, gathered by or in one
+-- pass over the timers. Assumes nothing.
 use mathlib.Core.Path.{_≡_, refl}
 use mathlib.Core.Bool.{Bool, true, false, _&&_, and-true, and-false, and-assoc}
 use mathlib.Core.List.{List, [], _∷_}
-use Prim.Native.Nat.{ℕ, suc, _+_, _≤_, _<_}
+use Prim.Native.Nat.{ℕ, suc, _+_, _-_, _%_, _^_, _≤_, _<_}
 use native.Mathlib.Numerals.{add-one}
 use native.Mathlib.Omega.{arith}
-use lib.Dec.{eqb, leb·suc-suc}
-use lib.IntN.{ℤ, pos, negsuc}
+use borrow.Author.Tests.{lt-ltb, le-ltb, ltb-true, ltb-false, leb-true, leb-false}
+use lib.Bits.{bitOr, or-lt, or-add-and, and-le-l, and-le-r}
+use lib.Dec.{T, eqb, ltb, leb}
+use lib.IntN.{ℤ, pos, negsuc, natAbs}
 use lib.ListN.{length, getD, drop, drop-of-length-le}
 use lib.Seq.{drop-cons}
-use lib.Signed.{leZ}
-use Rattle.ledger.specs.Range.{within, every, fixedWords, sameWords}
-
--- both limits of a number
-pub limits : (low high : ℕ) (z : ℤ) → (leZ (negsuc low) z && leZ z (pos high)) ≡ within (suc low) high z
-limits low high (pos n) = refl
-limits low high (negsuc n) = rw (and-true, leb·suc-suc)
+use lib.Signed.{mag, ltZ, nonNeg}
+use Rattle.ledger.specs.Range.{firstInRange, secondInRange, every, fixedWords, sameWords}
 
 -- generator words 0 to 3
 pub four-words : (ws : List ℕ) → length ws ≡ 4 → (eqb (getD ws 0 0) 0x61707865 && eqb (getD ws 1 0) 0x3320646e && eqb (getD ws 2 0) 0x79622d32 && eqb (getD ws 3 0) 0x6b206574) ≡ sameWords ws fixedWords
@@ -26,23 +24,54 @@ four-words (a ∷ b ∷ c ∷ []) h = let z : ⊥ = omega arith in absurd z
 four-words (a ∷ b ∷ c ∷ d ∷ []) h = simp (and-true, and-assoc)
 four-words (a ∷ b ∷ c ∷ d ∷ e ∷ ws) h = let z : ⊥ = omega arith in absurd z
 
+-- ---- differences as numbers below a power of two
+-- a test that holds where another does
+same : (a b : ℕ) (q : Bool) → (q ≡ true → a < b) → (q ≡ false → b ≤ a) → ltb a b ≡ q
+same a b true f g = lt-ltb a b (f refl)
+same a b false f g = le-ltb a b (g refl)
+
+-- the first, raised by 2^31: r is what the code has
+pub raised-below : (z : ℤ) (r : ℕ) → ltZ z (pos 0) ≡ true → mag z < 2 ^ 63 → r < 2 ^ 64 → (r + natAbs z) % 2 ^ 64 ≡ 2 ^ 31 → ltb r (2 ^ 32) ≡ firstInRange z
+raised-below (pos n) r e h k w = let z : n < 0 = ltb-true n 0 e in absurd (omega arith)
+raised-below (negsuc n) r e h k w = same r (2 ^ 32) (ltb n (2 ^ 31)) (λ t. omega (arith, ltb-true n (2 ^ 31) t)) (λ t. omega (arith, ltb-false n (2 ^ 31) t))
+
+pub raised-above : (z : ℤ) → T (nonNeg z) → ltb (natAbs z + 2 ^ 31) (2 ^ 32) ≡ firstInRange z
+raised-above (pos n) h = same (n + 2 ^ 31) (2 ^ 32) (leb n (2 ^ 31 - 1)) (λ t. omega (arith, leb-true n (2 ^ 31 - 1) t)) (λ t. omega (arith, leb-false n (2 ^ 31 - 1) t))
+raised-above (negsuc n) h = absurd h
+
+-- the second, as it is
+pub amount-second : (z : ℤ) → ltb (natAbs z) (2 ^ 32) ≡ secondInRange z
+amount-second (pos n) = same n (2 ^ 32) (leb n (2 ^ 32 - 1)) (λ t. omega (arith, leb-true n (2 ^ 32 - 1) t)) (λ t. omega (arith, leb-false n (2 ^ 32 - 1) t))
+amount-second (negsuc n) = same (suc n) (2 ^ 32) (ltb n (2 ^ 32 - 1)) (λ t. omega (arith, ltb-true n (2 ^ 32 - 1) t)) (λ t. omega (arith, ltb-false n (2 ^ 32 - 1) t))
+
+-- ---- numbers gathered by or
+-- the or of two is below where both are
+or-by : (k a b : ℕ) (s t : Bool) → ltb a (2 ^ k) ≡ s → ltb b (2 ^ k) ≡ t → ltb (bitOr a b) (2 ^ k) ≡ (s && t)
+or-by k a b true true p q = lt-ltb (bitOr a b) (2 ^ k) (or-lt k a b (ltb-true a (2 ^ k) p) (ltb-true b (2 ^ k) q))
+or-by k a b true false p q = le-ltb (bitOr a b) (2 ^ k) (omega (arith, ltb-false b (2 ^ k) q, or-add-and a b, and-le-l a b))
+or-by k a b false t p q = le-ltb (bitOr a b) (2 ^ k) (omega (arith, ltb-false a (2 ^ k) p, or-add-and a b, and-le-r a b))
+
+pub or-below : (k a b : ℕ) → ltb (bitOr a b) (2 ^ k) ≡ (ltb a (2 ^ k) && ltb b (2 ^ k))
+or-below k a b = or-by k a b (ltb a (2 ^ k)) (ltb b (2 ^ k)) refl refl
+
 -- one timer's two tests, taken over from what is left to what was met
-taken : (w a b x y : Bool) → (w && a && b && (x && y)) ≡ (w && ((a && x) && (b && y)))
+taken : (w a b x y : Bool) → (w && (a && b) && (x && y)) ≡ (w && ((a && x) && (b && y)))
 taken true true true x y = refl
 taken true true false x y = rw and-false
 taken true false b x y = refl
 taken false a b x y = refl
 
--- two lists in one pass: w is what was met before place i
-module _ {A : Type 0} (f g : A → Bool) (xs ys : List A) (i : ℕ) (w : Bool) where
+-- two lists in one pass: `met` is the or of what stands for the places before i
+module _ {A : Type 0} (k : ℕ) (f g : A → Bool) (xs ys : List A) (i met : ℕ) where
   -- what is met up to i and what is left from there
-  abbrev Whole : Bool
-  Whole = w && (every f (drop i xs) && every g (drop i ys))
-
-  -- place i is met
-  pub one-more : (d : A) → i < length xs → i < length ys → (w && f (getD xs i d) && g (getD ys i d) && (every f (drop (i + 1) xs) && every g (drop (i + 1) ys))) ≡ Whole
-  one-more d h k = rw (taken, add-one, drop-cons xs i d, drop-cons ys i d)
+  abbrev pub Whole : Bool
+  Whole = ltb met (2 ^ k) && (every f (drop i xs) && every g (drop i ys))
 
   -- nothing is left
-  pub all-met : length xs ≤ i → length ys ≤ i → Whole ≡ w
-  all-met h k = rw (drop-of-length-le xs h, drop-of-length-le ys k) (and-true w)
+  pub all-met : length xs ≤ i → length ys ≤ i → Whole ≡ ltb met (2 ^ k)
+  all-met h l = rw (drop-of-length-le xs h, drop-of-length-le ys l) (and-true (ltb met (2 ^ k)))
+
+-- place i is met: r stands for it
+pub one-more : {A : Type 0} (k : ℕ) (f g : A → Bool) (xs ys : List A) (i met r : ℕ) (d : A) → i < length xs → i < length ys
+    → ltb r (2 ^ k) ≡ (f (getD xs i d) && g (getD ys i d)) → Whole k f g xs ys (i + 1) (bitOr met r) ≡ Whole k f g xs ys i met
+one-more k f g xs ys i met r d h l e = rw (or-below k met r, e, taken, add-one, drop-cons xs i d, drop-cons ys i d)

@@ -38,12 +38,14 @@ fn minus(a: i64, b: i64) -> i64
     a - b
 }
 
-// The absolute amount.
-fn amount(x: i64) -> u64
-    requires { ⌜ natAbs x < 2 ^ 34 ⌝ }
+// The absolute amount. No number but the lowest has a negative that is out of reach, so it goes by way of `!x`, which is one less.
+pub fn amount(x: i64) -> u64
     ensures { λ r. ⌜ r ≡ natAbs x ⌝ }
 {
-    if x < 0 { (0 - x) as u64 } else { x as u64 }
+    if x < 0 {
+        return !x as u64 + 1;
+    }
+    x as u64
 }
 
 // The lesser of two.

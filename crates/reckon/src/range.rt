@@ -2,32 +2,39 @@
 // and the pass over the timers runs to its end whatever it met, so that the steps taken do not depend on where a fault lies.
 ghost use mathlib.Core.Path.{_≡_};
 ghost use mathlib.Core.Bool.{_&&_};
+ghost use Prim.Native.Nat.{_^_};
 ghost use lib.Dec.{leb, ltb};
 ghost use lib.ListN.{length};
 ghost use Rattle.ledger.specs.Range.{firstInRange, secondInRange, timerInRange, ledgerInRange, restInRange, every, sameWords, fixedWords};
+use crate::clocks::amount;
 use ledger::Ledger;
 use ledger::Spot;
 use ledger::Timer;
+use std::num::wrapping_sub_u64;
 
-// d1 in -2^31 to 2^31 - 1.
-fn first_in_range(d: i64) -> bool
-    ensures { λ r. ⌜ r ≡ firstInRange d ⌝ }
+// d + 2^31, modulo 2^64: below 2^32 where d is in -2^31 to 2^31 - 1, and only there. It compiles to one sum.
+fn raised(d: i64) -> u64
+    ensures { λ r. ⌜ ltb r (2 ^ 32) ≡ firstInRange d ⌝ }
 {
-    (-0x8000_0000 <= d) & (d <= 0x7fff_ffff)
+    if d < 0 {
+        return wrapping_sub_u64(0x8000_0000, amount(d));
+    }
+    amount(d) + 0x8000_0000
 }
 
-// d2 not beyond 2^32 - 1 either way.
-fn second_in_range(d: i64) -> bool
-    ensures { λ r. ⌜ r ≡ secondInRange d ⌝ }
+// How far a timer's differences reach, in one number: below 2^32 where d1 is in -2^31 to 2^31 - 1 and d2 not beyond 2^32 - 1 either
+// way, and only there. Neither difference is compared by itself, so whatever is to be tested can be gathered by `|` first.
+fn reach(d1: i64, d2: i64) -> u64
+    ensures { λ r. ⌜ ltb r (2 ^ 32) ≡ (firstInRange d1 && secondInRange d2) ⌝ }
 {
-    (-0xffff_ffff <= d) & (d <= 0xffff_ffff)
+    raised(d1) | amount(d2)
 }
 
 // A device's timer.
 pub fn timer_in_range(t: Timer) -> bool
     ensures { λ r. ⌜ r ≡ timerInRange t ⌝ }
 {
-    first_in_range(t.d1) & second_in_range(t.d2)
+    reach(t.d1, t.d2) < 0x1_0000_0000
 }
 
 // A pool of `words` words: its count within its size, its position inside it, no rotation above 31.
@@ -56,18 +63,18 @@ fn same_words(fixed: [u32; 4]) -> bool
         & (fixed[3] == 0x6b20_6574)
 }
 
-// Every device's timer, in one pass over both arrays.
+// Every device's timer, in one pass over both arrays. A bit from 2^32 on, once met, stays; one comparison at the end tells.
 fn timers_in_range(firsts: &[i64], seconds: &[i64]) -> bool
     requires { ⌜ length (now firsts) ≡ length (now seconds) ⌝ }
     ensures { λ r. ⌜ r ≡ (every firstInRange (now (firsts .entry)) && every secondInRange (now (seconds .entry))) ⌝ }
 {
-    let mut fine = true;
+    let mut met: u64 = 0;
     let mut i: usize = 0;
     while i < firsts.len() {
-        fine = fine & first_in_range(firsts[i]) & second_in_range(seconds[i]);
+        met = met | reach(firsts[i], seconds[i]);
         i += 1;
     }
-    fine
+    met < 0x1_0000_0000
 }
 
 // The rest of the record: the sixteen timers, and generator words 0 to 3.

@@ -44,24 +44,13 @@ minus-requires c κs =
     (sub-fits (u .next-timer .result .d2) (t .d2) (omega (arith, d2-bound (u .next-timer .result) (next-fine u))) (omega (arith, d2-bound t (u .before .pre))))
 
 amount-requires : tie.Need-amount-requires
-amount-requires c κs =
-    let u = c .before .before .before .before in
-    rw (d1-is u) (omega (arith, lies (u .next-timer .result .d1), d1-bound (u .next-timer .result) (next-fine u)))
+amount-requires c κs = search needs
 
 amount-requires-2 : tie.Need-amount-requires-2
-amount-requires-2 c κs =
-    let u = c .before .before .before .before .before .before in
-    rw (d2-is u) (omega (arith, d2-bound (u .next-timer .result) (next-fine u)))
+amount-requires-2 c κs = search needs
 
 amount-requires-3 : tie.Need-amount-requires-3
-amount-requires-3 c κs =
-    let m = c .before .before .before .before in
-    let u = m .before .before .before in
-    let x = u .next-timer .result in
-    let t = u .before .args .t in
-    let h = d2-bound x (next-fine u) in
-    let k = d2-bound t (u .before .pre) in
-    rw (d3-is m) (omega (arith, near (2 ^ 32) (x .d2) (t .d2) (omega (arith, lies (x .d2))) (omega (arith, lies (t .d2)))))
+amount-requires-3 c κs = search needs
 
 least-requires : tie.Need-least-requires
 least-requires c κs = search needs

@@ -5,18 +5,15 @@ use mir.Val.{toZ, ofZ}
 use Rattle.reckon.proofs.range.timer_in_range.Statement.{statement}
 use Rattle.reckon.proofs.range.timer_in_range.Tie as tie
 
-first-in-range-requires : tie.Need-first-in-range-requires
-first-in-range-requires c κs = search needs
-
-second-in-range-requires : tie.Need-second-in-range-requires
-second-in-range-requires c κs = search needs
+reach-requires : tie.Need-reach-requires
+reach-requires c κs = search needs
 
 returns : tie.Need-returns
 returns c =
-    let t = c .before .before .before .before .args .t in
+    let t = c .before .before .before .args .t in
     let a : toZ w64 (ofZ w64 (t .d1)) ≡ t .d1 = search needs in
     let b : toZ w64 (ofZ w64 (t .d2)) ≡ t .d2 = search needs in
-    rw (c .before .before .first-in-range .ensures, c .second-in-range .ensures, a, b)
+    rw (c .reach .ensures, a, b)
 
 pub timer-in-range-spec : {M : Type 1} → statement M
-timer-in-range-spec = tie.close (tie.spec first-in-range-requires second-in-range-requires returns)
+timer-in-range-spec = tie.close (tie.spec reach-requires returns)

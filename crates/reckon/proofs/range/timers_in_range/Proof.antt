@@ -4,44 +4,38 @@ use Prim.Native.Nat.{_≤_, _-_}
 use native.Mathlib.Omega.{arith}
 use borrow.Author.Needs.{needs}
 use lib.IntN.{pos}
-use lib.ListN.{length, getD, drop}
+use lib.ListN.{length, getD}
 use Rattle.ledger.specs.Range.{firstInRange, secondInRange, every}
 use Rattle.reckon.proofs.Signs.{back}
-use Rattle.reckon.proofs.Tested.{one-more, all-met}
+use Rattle.reckon.proofs.Tested.{Whole, one-more, all-met}
 use Rattle.reckon.proofs.range.timers_in_range.Statement.{statement}
 use Rattle.reckon.proofs.range.timers_in_range.Tie as tie
 
 -- what was met so far and what is left give the whole
 abbrev Inv-loop : tie.InvT-loop
-Inv-loop firsts seconds fine₀ i₀ fine i =
-    (i ≤ length firsts)
-    × ((fine && (every firstInRange (drop i firsts) && every secondInRange (drop i seconds))) ≡ (every firstInRange firsts && every secondInRange seconds))
+Inv-loop firsts seconds met₀ i₀ met i =
+    (i ≤ length firsts) × (Whole 32 firstInRange secondInRange firsts seconds i met ≡ (every firstInRange firsts && every secondInRange seconds))
 
 abbrev μ-loop : tie.MeasureT-loop
-μ-loop firsts seconds fine₀ i₀ fine i = length firsts - i
+μ-loop firsts seconds met₀ i₀ met i = length firsts - i
 
 loop-holds : tie.Need-loop-holds Inv-loop μ-loop
 loop-holds c = (search needs, refl)
 
-mul-first-in-range : tie.Need-mul-first-in-range Inv-loop μ-loop
-mul-first-in-range c = search needs
+mul-reach : tie.Need-mul-reach Inv-loop μ-loop
+mul-reach c = search needs
 
-shared-slice-copy-out-first-in-range :
-    tie.Need-shared-slice-copy-out-first-in-range Inv-loop μ-loop
-shared-slice-copy-out-first-in-range c = search needs
+shared-slice-copy-out-reach : tie.Need-shared-slice-copy-out-reach Inv-loop μ-loop
+shared-slice-copy-out-reach c = search needs
 
-first-in-range-requires : tie.Need-first-in-range-requires Inv-loop μ-loop
-first-in-range-requires c κs = search needs
+mul-reach-2 : tie.Need-mul-reach-2 Inv-loop μ-loop
+mul-reach-2 c = search needs
 
-mul-second-in-range : tie.Need-mul-second-in-range Inv-loop μ-loop
-mul-second-in-range c = search needs
+shared-slice-copy-out-reach-2 : tie.Need-shared-slice-copy-out-reach-2 Inv-loop μ-loop
+shared-slice-copy-out-reach-2 c = search needs
 
-shared-slice-copy-out-second-in-range :
-    tie.Need-shared-slice-copy-out-second-in-range Inv-loop μ-loop
-shared-slice-copy-out-second-in-range c = search needs
-
-second-in-range-requires : tie.Need-second-in-range-requires Inv-loop μ-loop
-second-in-range-requires c κs = search needs
+reach-requires : tie.Need-reach-requires Inv-loop μ-loop
+reach-requires c κs = search needs
 
 add-i : tie.Need-add-i Inv-loop μ-loop
 add-i c = search needs
@@ -51,22 +45,21 @@ loop-less c = search needs
 
 loop-again : tie.Need-loop-again Inv-loop μ-loop
 loop-again c =
-    let x = c .before .before .first-in-range in
-    let y = c .second-in-range in
-    let l = c .before .before .before .before .before .loop in
-    let a = c .before .before .before .before .before .before .args in
-    let p = back (getD (a .firsts .now) (l .i) (pos 0)) (c .before .before .before .first-in-range-arg .given) in
-    let q = back (getD (a .seconds .now) (l .i) (pos 0)) (c .before .second-in-range-arg .given) in (
+    let y = c .before in
+    let x = y .before in
+    let l = x .before .before .loop in
+    let a = x .before .before .before .args in
+    let p = back (getD (a .firsts .now) (l .i) (pos 0)) (x .reach-arg .given) in
+    let q = back (getD (a .seconds .now) (l .i) (pos 0)) (y .reach-arg2 .given) in (
       search needs,
-      rw (x .ensures, y .ensures, p, q)
-          (one-more firstInRange secondInRange (a .firsts .now) (a .seconds .now) (l .i) (l .fine) (pos 0) (omega arith) (omega arith) ∙ l .inv .1),
+      one-more 32 firstInRange secondInRange (a .firsts .now) (a .seconds .now) (l .i) (l .met) _ (pos 0) (omega arith) (omega arith) (rw (p, q) at (c .reach .ensures)) ∙ l .inv .1,
     )
 
 returns : tie.Need-returns Inv-loop μ-loop
 returns c =
     let l = c .before .loop in
     let a = c .before .before .args in
-    sym (all-met firstInRange secondInRange (a .firsts .now) (a .seconds .now) (l .i) (l .fine) (omega arith) (omega arith)) ∙ l .inv .1
+    sym (all-met 32 firstInRange secondInRange (a .firsts .now) (a .seconds .now) (l .i) (l .met) (omega arith) (omega arith)) ∙ l .inv .1
 
 pub timers-in-range-spec : {M : Type 1} → statement M
 timers-in-range-spec =
@@ -75,12 +68,11 @@ timers-in-range-spec =
     Inv-loop
     μ-loop
     loop-holds
-    mul-first-in-range
-    shared-slice-copy-out-first-in-range
-    first-in-range-requires
-    mul-second-in-range
-    shared-slice-copy-out-second-in-range
-    second-in-range-requires
+    mul-reach
+    shared-slice-copy-out-reach
+    mul-reach-2
+    shared-slice-copy-out-reach-2
+    reach-requires
     add-i
     loop-less
     loop-again

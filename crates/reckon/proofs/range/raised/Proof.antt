@@ -1,0 +1,45 @@
+use native.Mathlib.Omega.{arith}
+use borrow.Author.Needs.{needs}
+use mir.Facts.{toZ-ofZ}
+use Rattle.reckon.proofs.Signs.{lies, unturned}
+use Rattle.reckon.proofs.Tested.{raised-below, raised-above}
+use Rattle.reckon.proofs.range.raised.Statement.{statement}
+use Rattle.reckon.proofs.range.raised.Tie as tie
+
+amount-requires : tie.Need-amount-requires
+amount-requires c κs = search needs
+
+wrapping-sub-u64-requires : tie.Need-wrapping-sub-u64-requires
+wrapping-sub-u64-requires c κs = search needs
+
+returns : tie.Need-returns
+returns c =
+    let s = c .before .before .before in
+    let b = toZ-ofZ (s .fits .d) in
+    raised-below (s .args .d) _ (rw b at (c .before .before .if1 .taken)) (s .fits .d .sfits) (c .wrapping-sub-u64 .ok)
+    (rw (c .before .amount .ensures, b) at (c .wrapping-sub-u64 .ensures))
+
+amount-requires-2 : tie.Need-amount-requires-2
+amount-requires-2 c κs = search needs
+
+add-result : tie.Need-add-result
+add-result c =
+    let s = c .before .before in
+    rw (c .amount2 .ensures, toZ-ofZ (s .fits .d)) (record { fits = omega (arith, lies (s .args .d), s .fits .d .sfits) })
+
+returns-2 : tie.Need-returns-2
+returns-2 c =
+    let s = c .before .before in
+    let b = toZ-ofZ (s .fits .d) in
+    rw (c .amount2 .ensures, b) (raised-above (s .args .d) (unturned (s .args .d) (rw b at (c .before .if1 .left))))
+
+pub raised-spec : {M : Type 1} → statement M
+raised-spec =
+    tie.close
+    (tie.spec
+    amount-requires
+    wrapping-sub-u64-requires
+    returns
+    amount-requires-2
+    add-result
+    returns-2)

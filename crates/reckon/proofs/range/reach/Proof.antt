@@ -1,0 +1,19 @@
+use borrow.Author.Needs.{needs}
+use mir.Facts.{toZ-ofZ}
+use Rattle.reckon.proofs.Tested.{or-below, amount-second}
+use Rattle.reckon.proofs.range.reach.Statement.{statement}
+use Rattle.reckon.proofs.range.reach.Tie as tie
+
+raised-requires : tie.Need-raised-requires
+raised-requires c κs = search needs
+
+amount-requires : tie.Need-amount-requires
+amount-requires c κs = search needs
+
+returns : tie.Need-returns
+returns c =
+    let s = c .before .before in
+    rw (or-below 32 _ _, c .before .raised .ensures, c .amount .ensures, toZ-ofZ (s .fits .d1), toZ-ofZ (s .fits .d2), amount-second (s .args .d2))
+
+pub reach-spec : {M : Type 1} → statement M
+reach-spec = tie.close (tie.spec raised-requires amount-requires returns)
