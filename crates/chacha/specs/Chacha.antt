@@ -6,6 +6,7 @@ use lib.ListN.{getD, set}
 use lib.Bits.{bitXor}
 use Rattle.words.specs.Words.{add, rotl, addWords}
 use Rattle.words.specs.Bytes.{wordsBytes}
+use Rattle.chacha.specs.declared.rounds.Four.{Four}
 
 -- a line of the quarter round, on the words at x, y and z: s[x] += s[y]; s[z] ^= s[x]; s[z] <<<= k
 unfoldable pub line : ℕ → ℕ → ℕ → ℕ → List ℕ → List ℕ
@@ -16,6 +17,18 @@ line k x y z s =
 -- QUARTERROUND(x, y, z, w), sections 2.1 and 2.2: four lines, the first applied first
 unfoldable pub quarterRound : ℕ → ℕ → ℕ → ℕ → List ℕ → List ℕ
 quarterRound x y z w s = line 7 z w y (line 8 x y w (line 12 z w y (line 16 x y w s)))
+
+-- the same on four words by themselves (proofs/Columns.antt: it is the one of a state)
+unfoldable pub quarter : ℕ → ℕ → ℕ → ℕ → Four
+quarter a b c d =
+    let a1 = add a b in
+    let d1 = rotl 16 (bitXor d a1) in
+    let c1 = add c d1 in
+    let b1 = rotl 12 (bitXor b c1) in
+    let a2 = add a1 b1 in
+    let d2 = rotl 8 (bitXor d1 a2) in
+    let c2 = add c1 d2 in
+    record { a = a2; b = rotl 7 (bitXor b1 c2); c = c2; d = d2 }
 
 -- inner_block, section 2.3: the four columns, then the four diagonals
 unfoldable pub innerBlock : List ℕ → List ℕ

@@ -1,43 +1,66 @@
 // The quarter round and the double round.
 ghost use mathlib.Core.Path.{_≡_};
-ghost use Prim.Native.Nat.{_<_};
-ghost use Rattle.chacha.specs.Chacha.{line, quarterRound, innerBlock};
-ghost use Prim.Native.Nat.{_%_};
+ghost use Rattle.chacha.specs.Chacha.{quarter, innerBlock};
 use std::num::wrapping_add_u32;
 use words::rotate_left;
 
-// s[x] += s[y]; s[z] ^= s[x]; s[z] <<<= k
-fn line(mut s: [u32; 16], k: u32, x: usize, y: usize, z: usize) -> [u32; 16]
-    requires { ⌜ (x < 16) × (y < 16) × (z < 16) ⌝ }
-    ensures { λ r. ⌜ r ≡ line (k % 32) x y z s ⌝ }
-{
-    let a = wrapping_add_u32(s[x], s[y]);
-    s[x] = a;
-    s[z] = rotate_left(s[z] ^ a, k);
-    s
+// Four words of a state.
+pub struct Four {
+    pub a: u32,
+    pub b: u32,
+    pub c: u32,
+    pub d: u32,
 }
 
-// The four lines on the words at x, y, z and w.
-pub fn quarter_round(s: [u32; 16], x: usize, y: usize, z: usize, w: usize) -> [u32; 16]
-    requires { ⌜ (x < 16) × (y < 16) × (z < 16) × (w < 16) ⌝ }
-    ensures { λ r. ⌜ r ≡ quarterRound x y z w s ⌝ }
+// The quarter round on four words by themselves. A state that goes from call to call as four numbers stays in registers, word by word.
+pub fn quarter(a: u32, b: u32, c: u32, d: u32) -> Four
+    ensures { λ r. ⌜ r ≡ quarter a b c d ⌝ }
 {
-    let s1 = line(s, 16, x, y, w);
-    let s2 = line(s1, 12, z, w, y);
-    let s3 = line(s2, 8, x, y, w);
-    line(s3, 7, z, w, y)
+    let a1 = wrapping_add_u32(a, b);
+    let d1 = rotate_left(d ^ a1, 16);
+    let c1 = wrapping_add_u32(c, d1);
+    let b1 = rotate_left(b ^ c1, 12);
+    let a2 = wrapping_add_u32(a1, b1);
+    let d2 = rotate_left(d1 ^ a2, 8);
+    let c2 = wrapping_add_u32(c1, d2);
+    let b2 = rotate_left(b1 ^ c2, 7);
+    Four {
+        a: a2,
+        b: b2,
+        c: c2,
+        d: d2,
+    }
 }
 
-// Two rounds: the columns, then the diagonals.
+// Two rounds: the columns, then the diagonals. The four quarters of a round have no word in common, so their order is free; in this one
+// the fewest words have to leave the registers of x86-64.
 pub fn inner_block(s: [u32; 16]) -> [u32; 16]
     ensures { λ r. ⌜ r ≡ innerBlock s ⌝ }
 {
-    let s1 = quarter_round(s, 0, 4, 8, 12);
-    let s2 = quarter_round(s1, 1, 5, 9, 13);
-    let s3 = quarter_round(s2, 2, 6, 10, 14);
-    let s4 = quarter_round(s3, 3, 7, 11, 15);
-    let s5 = quarter_round(s4, 0, 5, 10, 15);
-    let s6 = quarter_round(s5, 1, 6, 11, 12);
-    let s7 = quarter_round(s6, 2, 7, 8, 13);
-    quarter_round(s7, 3, 4, 9, 14)
+    let r = quarter(s[2], s[6], s[10], s[14]);
+    let t = quarter(s[3], s[7], s[11], s[15]);
+    let q = quarter(s[1], s[5], s[9], s[13]);
+    let p = quarter(s[0], s[4], s[8], s[12]);
+    let u = quarter(p.a, q.b, r.c, t.d);
+    let x = quarter(t.a, p.b, q.c, r.d);
+    let v = quarter(q.a, r.b, t.c, p.d);
+    let w = quarter(r.a, t.b, p.c, q.d);
+    [
+        u.a,
+        v.a,
+        w.a,
+        x.a,
+        x.b,
+        u.b,
+        v.b,
+        w.b,
+        w.c,
+        x.c,
+        u.c,
+        v.c,
+        v.d,
+        w.d,
+        x.d,
+        u.d,
+    ]
 }

@@ -1,10 +1,12 @@
 -- The bytes that go into a pool, written out as the code lays them. Assumes nothing.
 use mathlib.Core.Path.{_≡_, refl, sym, ap, _∙_}
-use mathlib.Core.List.{List, [], _∷_, _++_}
-use Prim.Native.Nat.{ℕ}
+use mathlib.Core.List.{List, [], _∷_, _++_, append-assoc, append-nil}
+use Prim.Native.Nat.{ℕ, zero, suc, _*_, _/_, _%_, _^_, _<_}
 use native.Mathlib.Omega.{arith}
-use lib.ListN.{length, getD, take, drop-of-length-le}
-use lib.Seq.{drop-cons, take-at}
+use lib.Arith.{digits-div, digits-mod, mod-mul}
+use lib.ListN.{length, take}
+use lib.Pow.{pow-pos}
+use lib.Seq.{take-at}
 use Rattle.words.specs.Bytes.{leBytes, wordsBytes, bytesWords}
 use Rattle.ledger.specs.Shapes.{Shape}
 use Rattle.pool.specs.Mixing.{Pool}
@@ -12,45 +14,35 @@ use Rattle.pool.specs.Extracting.{Extract, extractBlocks, extract}
 use Rattle.keeper.specs.Generator.{xorAt, ontoKey}
 use Rattle.keeper.specs.Calls.{eventBytes}
 
--- four bytes, written out
-abbrev four : List ℕ → List ℕ → List ℕ
-four a t = getD a 0 0 ∷ getD a 1 0 ∷ getD a 2 0 ∷ getD a 3 0 ∷ t
+-- the low bytes of a number are those of its remainder
+abbrev span : ℕ → ℕ
+span zero = 1
+span (suc n) = span n * 2 ^ 8
 
--- eight bytes
-abbrev eight : List ℕ → List ℕ → List ℕ
-eight a t = getD a 0 0 ∷ getD a 1 0 ∷ getD a 2 0 ∷ getD a 3 0 ∷ getD a 4 0 ∷ getD a 5 0 ∷ getD a 6 0 ∷ getD a 7 0 ∷ t
+span-pos : (n : ℕ) → 0 < span n
+span-pos zero = omega arith
+span-pos (suc n) = omega (arith, span-pos n)
 
--- those of an event
-event-whole : (stamp now value : ℕ) → eight (leBytes 8 stamp) (four (leBytes 4 now) (four (leBytes 4 value) [])) ≡ eventBytes stamp now value
+low-bytes : (n x : ℕ) → leBytes n (x % span n) ≡ leBytes n x
 unfolding leBytes
-event-whole stamp now value = refl
+low-bytes zero x = refl
+low-bytes (suc n) x =
+    let r : x % 2 ^ 8 < 2 ^ 8 = omega arith in
+    rw (mod-mul x (span-pos n) (pow-pos 8), digits-mod (x / 2 ^ 8 % span n) r, digits-div (x / 2 ^ 8 % span n) r)
+    (ap (λ (t : List ℕ). x % 2 ^ 8 ∷ t) (low-bytes n (x / 2 ^ 8)))
 
-pub event-laid : (stamp now value : ℕ) (s a v : List ℕ) → s ≡ leBytes 8 stamp → a ≡ leBytes 4 now → v ≡ leBytes 4 value
-    → eight s (four a (four v [])) ≡ eventBytes stamp now value
-event-laid stamp now value s a v es ea ev = rw (es, ea, ev) (event-whole stamp now value)
+-- eight bytes are those of two halves
+halves : (x : ℕ) → leBytes 4 x ++ leBytes 4 (x / 2 ^ 32) ≡ leBytes 8 x
+unfolding leBytes
+halves x =
+    let e : x / 2 ^ 32 ≡ x / 2 ^ 8 / 2 ^ 8 / 2 ^ 8 / 2 ^ 8 = omega arith in
+    rw e
 
--- a list of four words is its four words
-quartet : (f : List ℕ) → length f ≡ 4 → f ≡ getD f 0 0 ∷ getD f 1 0 ∷ getD f 2 0 ∷ getD f 3 0 ∷ []
-quartet f l =
-    drop-cons f 0 0 (omega arith)
-    ∙ ap (λ (t : List ℕ). getD f 0 0 ∷ t)
-    (drop-cons f 1 0 (omega arith)
-    ∙ ap (λ (t : List ℕ). getD f 1 0 ∷ t)
-    (drop-cons f 2 0 (omega arith)
-    ∙ ap (λ (t : List ℕ). getD f 2 0 ∷ t)
-    (drop-cons f 3 0 (omega arith)
-    ∙ ap (λ (t : List ℕ). getD f 3 0 ∷ t)
-    (drop-of-length-le f {i = 4} (omega arith)))))
-
--- those of four words
-words-four : (w x y z : ℕ) → four (leBytes 4 w) (four (leBytes 4 x) (four (leBytes 4 y) (four (leBytes 4 z) []))) ≡ wordsBytes (w ∷ x ∷ y ∷ z ∷ [])
-unfolding leBytes wordsBytes
-words-four w x y z = refl
-
-pub fast-laid : (f a b c d : List ℕ) → length f ≡ 4
-    → a ≡ leBytes 4 (getD f 0 0) → b ≡ leBytes 4 (getD f 1 0) → c ≡ leBytes 4 (getD f 2 0) → d ≡ leBytes 4 (getD f 3 0)
-    → four a (four b (four c (four d []))) ≡ wordsBytes f
-fast-laid f a b c d l ea eb ec ed = rw (ea, eb, ec, ed) (words-four _ _ _ _ ∙ ap wordsBytes (sym (quartet f l)))
+-- an event's bytes are those of four words
+pub event-words : (stamp now value : ℕ) → wordsBytes (stamp % 2 ^ 32 ∷ stamp / 2 ^ 32 ∷ now ∷ value ∷ []) ≡ eventBytes stamp now value
+unfolding wordsBytes
+event-words stamp now value =
+    rw (low-bytes 4 stamp, append-nil (leBytes 4 value), ← append-assoc (leBytes 4 stamp) (leBytes 4 (stamp / 2 ^ 32)) (leBytes 4 now ++ leBytes 4 value), halves stamp)
 
 -- ---- the front of a room, after n bytes were laid there
 pub front-length : (n : ℕ) (bs rest : List ℕ) → length bs ≡ n → n ≡ length (take n (bs ++ rest))

@@ -17,35 +17,7 @@ use generator::onto_key;
 use ledger::Spot;
 use mixer::extract;
 use mixer::mix;
-use words::bytes_of_u32;
-use words::bytes_of_u64;
-
-// The 16 bytes of a device event.
-fn event_bytes(stamp: u64, at: u32, value: u32) -> [u8; 16]
-    ensures { λ r. ⌜ r ≡ eventBytes stamp at value ⌝ }
-{
-    let s = bytes_of_u64(stamp);
-    let a = bytes_of_u32(at);
-    let v = bytes_of_u32(value);
-    [
-        s[0],
-        s[1],
-        s[2],
-        s[3],
-        s[4],
-        s[5],
-        s[6],
-        s[7],
-        a[0],
-        a[1],
-        a[2],
-        a[3],
-        v[0],
-        v[1],
-        v[2],
-        v[3],
-    ]
-}
+use mixer::mix_words;
 
 // An event's stamp, clock and value go into a pool.
 pub fn feed_event(ws: &mut [u32], s: Spot, stamp: u64, at: u32, value: u32) -> Spot
@@ -53,47 +25,23 @@ pub fn feed_event(ws: &mut [u32], s: Spot, stamp: u64, at: u32, value: u32) -> S
     ensures { λ r. ⌜ (record { words = now (ws .exit); spot = r }) ≡ mix (shapeOf (length (now (ws .entry)))) (record { words = now (ws .entry); spot = s }) (eventBytes stamp at value) ⌝ }
     ensures { λ r. ⌜ InPool (length (now (ws .entry))) r ⌝ }
 {
-    let b = event_bytes(stamp, at, value);
-    mix(ws, s, &b)
-}
-
-// The four words of the fast pool as 16 bytes.
-fn fast_bytes(f: [u32; 4]) -> [u8; 16]
-    ensures { λ r. ⌜ r ≡ wordsBytes f ⌝ }
-{
-    let a = bytes_of_u32(f[0]);
-    let b = bytes_of_u32(f[1]);
-    let c = bytes_of_u32(f[2]);
-    let d = bytes_of_u32(f[3]);
-    [
-        a[0],
-        a[1],
-        a[2],
-        a[3],
-        b[0],
-        b[1],
-        b[2],
-        b[3],
-        c[0],
-        c[1],
-        c[2],
-        c[3],
-        d[0],
-        d[1],
-        d[2],
-        d[3],
-    ]
+    let w = [
+        (stamp % 0x1_0000_0000) as u32,
+        (stamp / 0x1_0000_0000) as u32,
+        at,
+        value,
+    ];
+    mix_words(ws, s, &w)
 }
 
 // The fast pool's words go into a pool, if they spill.
-pub fn spill(ws: &mut [u32], s: Spot, f: [u32; 4], spills: bool) -> Spot
+pub fn spill(ws: &mut [u32], s: Spot, f: &[u32], spills: bool) -> Spot
     requires { ⌜ InPool (length (now ws)) s ⌝ }
-    ensures { λ r. ⌜ (record { words = now (ws .exit); spot = r }) ≡ mix (shapeOf (length (now (ws .entry)))) (record { words = now (ws .entry); spot = s }) (pick spills (wordsBytes f) []) ⌝ }
+    ensures { λ r. ⌜ (record { words = now (ws .exit); spot = r }) ≡ mix (shapeOf (length (now (ws .entry)))) (record { words = now (ws .entry); spot = s }) (pick spills (wordsBytes (now (f .entry))) []) ⌝ }
     ensures { λ r. ⌜ InPool (length (now (ws .entry))) r ⌝ }
 {
     if spills {
-        let b = fast_bytes(f);
-        return mix(ws, s, &b);
+        return mix_words(ws, s, f);
     }
     s
 }

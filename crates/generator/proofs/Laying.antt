@@ -4,12 +4,13 @@ use mathlib.Core.List.{List, [], _∷_, _++_, append-assoc, append-nil}
 use Prim.Native.Nat.{ℕ, zero, suc, _+_, _-_, _*_, _<_, _≤_}
 use native.Mathlib.Omega.{arith}
 use lib.ListN.{length, set, take, drop, length-drop, drop-of-length-le}
-use lib.Seq.{sets, length-sets, take-all}
-use Rattle.words.proofs.Rooms.{sets-append}
+use lib.Seq.{sets, length-take-le, take-all, take-take}
+use Rattle.words.proofs.Rooms.{sets-append, sets-cons, sets-none, sets-over, sets-whole}
 use Rattle.chacha.specs.Chacha.{chachaBlock, serialize}
+use Rattle.chacha.proofs.Lengths.{length-serialized}
 use Rattle.ledger.specs.Plans.{wholeBlocks}
 use Rattle.keeper.specs.Generator.{counted, stream}
-use Rattle.keeper.proofs.Counter.{stream-length}
+use Rattle.keeper.proofs.Counter.{stream-length, stream-keeps-length}
 
 -- ---- one block more, at the end of the stream
 -- the generator
@@ -27,16 +28,6 @@ bytes-more (suc n) g =
     ∙ sym (append-assoc (serialize (chachaBlock g)) ((stream n (counted g)) .bytes) _)
 
 -- ---- bytes laid over a room
--- past its first place
-sets-cons : (x : ℕ) (l : List ℕ) (i : ℕ) (vs : List ℕ) → sets (x ∷ l) (suc i) vs ≡ x ∷ sets l i vs
-sets-cons x l i [] = refl
-sets-cons x l i (v ∷ vs) = sets-cons x (set l i v) (suc i) vs
-
--- over no room at all
-sets-none : (i : ℕ) (vs : List ℕ) → sets [] i vs ≡ []
-sets-none i [] = refl
-sets-none i (v ∷ vs) = sets-none (suc i) vs
-
 -- over what stands behind its first k places
 sets-back : (k : ℕ) (l vs : List ℕ) → take k l ++ sets (drop k l) 0 vs ≡ sets l k vs
 sets-back zero l vs = refl
@@ -51,56 +42,63 @@ sets-part k l part vs e =
     let p : part ≡ sets (drop k l) 0 vs = rw (take-all (length l - k) (drop k l) n) at e in
     rw (p, drop-of-length-le (drop k l) n, append-nil (sets (drop k l) 0 vs)) (sets-back k l vs)
 
--- over the whole of it: what has no place is dropped
-sets-over : (l vs : List ℕ) → length l ≤ length vs → sets l 0 vs ≡ take (length l) vs
-sets-over [] vs h = sets-none 0 vs
-sets-over (x ∷ l) [] h = absurd (omega arith)
-sets-over (x ∷ l) (v ∷ vs) h = sets-cons v l 0 vs ∙ ap (λ (t : List ℕ). v ∷ t) (sets-over l vs (omega arith))
+-- from k on: the same
+pub sets-cut : (l vs : List ℕ) (k n : ℕ) → length l ≡ k + n → n ≤ length vs → sets l k (take n vs) ≡ sets l k vs
+sets-cut l vs k n e h =
+    let d : length (drop k l) ≡ n = omega (arith, length-drop k l) in
+    let t : length (drop k l) ≤ length (take n vs) = omega (arith, length-take-le n vs h) in
+    let r : sets (drop k l) 0 (take n vs) ≡ sets (drop k l) 0 vs = rw (sets-over (drop k l) (take n vs) t, sets-over (drop k l) vs (omega arith), d) (take-take n n vs (omega arith)) in
+    sym (sets-back k l (take n vs)) ∙ ap (λ (x : List ℕ). take k l ++ x) r ∙ sets-back k l vs
+
+-- over a room of 64 bytes, a block's bytes: that is all the room then has
+pub whole-block : (s room b : List ℕ) → length s ≡ 16 → length room ≡ 64 → b ≡ sets room 0 (serialize (chachaBlock s)) → b ≡ serialize (chachaBlock s)
+whole-block s room b ls lr e =
+    let n : length (serialize (chachaBlock s)) ≡ 64 = length-serialized s ls in
+    e ∙ sets-whole room (serialize (chachaBlock s)) (omega arith)
 
 -- ---- a room into which whole blocks are laid, k bytes so far
-pub record Filled (g start out s b : List ℕ) (k : ℕ) : Type 0 where
+pub record Filled (g start out s : List ℕ) (k : ℕ) : Type 0 where
   pub made : ℕ
   pub place : k ≡ 64 * made
-  pub near : k < length start + 64
   pub moved : s ≡ (stream made g) .generator
   pub laid : out ≡ sets start 0 ((stream made g) .bytes)
-  pub last : 0 < made → b ≡ chachaBlock ((stream (made - 1) g) .generator)
 
 -- none is laid
-pub filled-none : (g start b : List ℕ) → Filled g start start g b 0
+pub filled-none : (g start : List ℕ) → Filled g start start g 0
 unfolding stream
-filled-none g start b =
-    record { made = 0; place = refl; near = omega arith; moved = refl; laid = refl; last = λ h. absurd (omega arith) }
-
--- the room keeps its length
-filled-length : (g start out s b : List ℕ) (k : ℕ) → Filled g start out s b k → length out ≡ length start
-filled-length g start out s b k f = ap length (f .laid) ∙ length-sets start 0 ((stream (f .made) g) .bytes)
+filled-none g start = record { made = 0; place = refl; moved = refl; laid = refl }
 
 -- one more is laid
-pub filled-more : (g start out s b part n c : List ℕ) (k : ℕ) → length g ≡ 16 → k < length out → c ≡ chachaBlock s → n ≡ counted s
-    → part ≡ sets (take (length out - k) (drop k out)) 0 (serialize c) → Filled g start out s b k
-    → Filled g start (take k out ++ (part ++ drop (length out - k) (drop k out))) n c (k + 64)
-filled-more g start out s b part n c k lg h ec en ep f =
+more : (g start out s n over : List ℕ) (k : ℕ) → length s ≡ 16 → n ≡ counted s → over ≡ sets out k (serialize (chachaBlock s)) → Filled g start out s k → Filled g start over n (k + 64)
+more g start out s n over k ls en eo f =
     let j : ℕ = f .made in
-    let l : length out ≡ length start = filled-length g start out s b k f in
-    let d : suc j - 1 ≡ j = omega arith in
+    let lg : length g ≡ 16 = sym (stream-keeps-length j g) ∙ ap length (sym (f .moved)) ∙ ls in
     let e : k ≡ 0 + length ((stream j g) .bytes) = omega (arith, stream-length j g lg, f .place) in
     record {
       made = suc j;
       place = omega (arith, f .place);
-      near = omega arith;
       moved = rw (en, f .moved) (sym (generator-more j g));
-      laid = rw (sets-part k out part (serialize c) ep, f .laid, e, ec, f .moved, bytes-more j g) (sets-append start 0 ((stream j g) .bytes) _);
-      last = λ _. rw (ec, f .moved, d);
+      laid = rw (eo, f .laid, e, f .moved, bytes-more j g) (sets-append start 0 ((stream j g) .bytes) _);
     }
 
--- the room is full
-pub filled-all : (g start out s b : List ℕ) (k : ℕ) → length g ≡ 16 → 1 ≤ length start → length out ≤ k → Filled g start out s b k
-    → (out ≡ take (length start) ((stream (wholeBlocks (length start)) g) .bytes))
-    × ((s ≡ (stream (wholeBlocks (length start)) g) .generator)
-    × (b ≡ chachaBlock ((stream (wholeBlocks (length start) - 1) g) .generator)))
-filled-all g start out s b k lg one h f =
-    let l : length out ≡ length start = filled-length g start out s b k f in
-    let e : wholeBlocks (length start) ≡ f .made = omega (arith, f .place, f .near) in
-    let le : length start ≤ length ((stream (f .made) g) .bytes) = omega (arith, stream-length (f .made) g lg, f .place) in
-    rw e (f .laid ∙ sets-over start ((stream (f .made) g) .bytes) le, (f .moved, f .last (omega (arith, f .place))))
+-- .. as the code has it, over the part of the room from k on
+pub filled-more : (g start out s part n : List ℕ) (k : ℕ) → length s ≡ 16 → n ≡ counted s
+    → part ≡ sets (take (length out - k) (drop k out)) 0 (serialize (chachaBlock s)) → Filled g start out s k
+    → Filled g start (take k out ++ (part ++ drop (length out - k) (drop k out))) n (k + 64)
+filled-more g start out s part n k ls en ep f = more g start out s n _ k ls en (sets-part k out part (serialize (chachaBlock s)) ep) f
+
+-- the last is laid, by way of a room of 64 bytes, and the room is full
+pub filled-all : (g start out s over n room last : List ℕ) (k : ℕ) → length s ≡ 16 → length room ≡ 64 → k < length start → length start ≤ k + 64
+    → n ≡ counted s → last ≡ sets room 0 (serialize (chachaBlock s)) → over ≡ sets out k last → Filled g start out s k
+    → (over ≡ take (length start) ((stream (wholeBlocks (length start)) g) .bytes))
+    × ((n ≡ (stream (wholeBlocks (length start)) g) .generator)
+    × (last ≡ serialize (chachaBlock ((stream (wholeBlocks (length start) - 1) g) .generator))))
+unfolding more
+filled-all g start out s over n room last k ls lr lo hi en er eo f =
+    let el = whole-block s room last ls lr er in
+    let a = more g start out s n over k ls en (rw el at eo) f in
+    let lg : length g ≡ 16 = sym (stream-keeps-length (f .made) g) ∙ ap length (sym (f .moved)) ∙ ls in
+    let w : wholeBlocks (length start) ≡ suc (f .made) = omega (arith, f .place) in
+    let d : suc (f .made) - 1 ≡ f .made = omega arith in
+    let le : length start ≤ length ((stream (suc (f .made)) g) .bytes) = omega (arith, stream-length (suc (f .made)) g lg, f .place) in
+    rw (w, d) (a .laid ∙ sets-over start ((stream (suc (f .made)) g) .bytes) le, (a .moved, rw (el, f .moved)))

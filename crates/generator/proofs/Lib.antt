@@ -1,3 +1,3 @@
 mod ShortWords
 mod Laying
-mod KeyWords
+mod KeyBytes

@@ -61,21 +61,3 @@ xor-bytes g bs whole i w h ew x =
 pub xor-done : (g bs whole : List ℕ) (i : ℕ) → length bs ≤ 4 * i → xorAt g (4 + i) (bytesWords (drop (4 * i) bs)) ≡ whole → g ≡ whole
 unfolding xorAt bytesWords
 xor-done g bs whole i h x = rw (drop-of-length-le bs h) at x
-
--- one of eight words of a block, from a place on
-pub xor-words : (g b whole : List ℕ) (from i : ℕ) → i < 8 → from + i < length b
-    → xorAt g (4 + i) (take (8 - i) (drop (from + i) b)) ≡ whole
-    → xorAt (set g (4 + i) (bitXor (getD g (4 + i) 0) (getD b (from + i) 0))) (4 + (i + 1)) (take (8 - (i + 1)) (drop (from + (i + 1)) b)) ≡ whole
-xor-words g b whole from i h l x =
-    let n : 4 + (i + 1) ≡ suc (4 + i) = omega arith in
-    let t : 8 - i ≡ suc (8 - (i + 1)) = omega arith in
-    let m : from + (i + 1) ≡ suc (from + i) = omega arith in
-    let e : take (8 - i) (drop (from + i) b) ≡ getD b (from + i) 0 ∷ take (8 - (i + 1)) (drop (from + (i + 1)) b) = rw (t, m, drop-cons b (from + i) 0 l) in
-    xor-one g (4 + i) _ _ _ _ whole n e x
-
--- all eight are done
-pub xor-eight : (g b whole : List ℕ) (from i : ℕ) → 8 ≤ i → xorAt g (4 + i) (take (8 - i) (drop (from + i) b)) ≡ whole → g ≡ whole
-unfolding xorAt
-xor-eight g b whole from i h x =
-    let z : 8 - i ≡ 0 = omega arith in
-    rw z at x

@@ -2,14 +2,15 @@
 ghost use mathlib.Core.Path.{_≡_};
 ghost use Prim.Native.Nat.{_-_, _≤_};
 ghost use lib.Dec.{eqb};
-ghost use lib.ListN.{length, take, drop};
+ghost use lib.ListN.{length, take};
 ghost use Rattle.words.specs.Words.{add};
-ghost use Rattle.chacha.specs.Chacha.{chachaBlock};
+ghost use lib.Seq.{sets};
+ghost use Rattle.chacha.specs.Chacha.{chachaBlock, serialize};
 ghost use Rattle.ledger.specs.Choice.{pick};
 ghost use Rattle.ledger.specs.Plans.{wholeBlocks, usedUp};
-ghost use Rattle.keeper.specs.Generator.{xorAt, counted, stream, generated};
-use chacha::block;
-use chacha::put_block;
+ghost use Rattle.keeper.specs.Generator.{counted, stream, generated};
+use crate::key::onto_key;
+use chacha::lay_block;
 use std::num::wrapping_add_u32;
 
 // The high word of the counter, where the low one has become `low`.
@@ -22,60 +23,48 @@ fn carried(low: u32, high: u32) -> u32
     high
 }
 
-// The counter of words 12 and 13 moved on by one.
-fn counted(g: [u32; 16]) -> [u32; 16]
-    ensures { λ r. ⌜ r ≡ counted g ⌝ }
+// The next block laid over a room from its start, and the counter of words 12 and 13 moved on by one.
+fn next_block(g: &mut [u32; 16], room: &mut [u8])
+    ensures { λ _. ⌜ now (room .exit) ≡ sets (now (room .entry)) 0 (serialize (chachaBlock (now (g .entry)))) ⌝ }
+    ensures { λ _. ⌜ now (g .exit) ≡ counted (now (g .entry)) ⌝ }
+    ensures { λ _. ⌜ length (now (g .entry)) ≡ 16 ⌝ }
 {
+    lay_block(g, room);
     let low = wrapping_add_u32(g[12], 1);
     let high = carried(low, g[13]);
-    let mut n = g;
-    n[12] = low;
-    n[13] = high;
-    n
+    g[12] = low;
+    g[13] = high;
 }
 
-// The eight words of b from a place on, xored onto the key.
-fn rekeyed(g: [u32; 16], b: [u32; 16], from: usize) -> [u32; 16]
-    requires { ⌜ from ≤ 8 ⌝ }
-    ensures { λ r. ⌜ r ≡ xorAt g 4 (take 8 (drop from b)) ⌝ }
+// Bytes laid over a room from k on, as many as there is room for.
+fn lay_front(out: &mut [u8], k: usize, bytes: &[u8])
+    requires { ⌜ (k ≤ length (now out)) × (length (now out) - k ≤ length (now bytes)) ⌝ }
+    ensures { λ _. ⌜ now (out .exit) ≡ sets (now (out .entry)) k (now (bytes .entry)) ⌝ }
 {
-    let mut n = g;
+    let n = out.len() - k;
     let mut i: usize = 0;
-    while i < 8 {
-        n[4 + i] = n[4 + i] ^ b[from + i];
+    while i < n {
+        out[k + i] = bytes[i];
         i += 1;
     }
-    n
 }
 
-// The generator after some blocks, and the last of them.
-struct Made {
-    generator: [u32; 16],
-    last: [u32; 16],
-}
-
-// Blocks laid into the room until it is full.
-fn fill(g: [u32; 16], out: &mut [u8]) -> Made
+// Blocks until the room is full. All but the last go straight into it; the last goes by way of a room of its own, which keeps what is
+// not handed out: the key is changed from there.
+fn fill(g: &mut [u32; 16], out: &mut [u8], last: &mut [u8])
     requires { ⌜ (1 ≤ length (now out)) × (length (now out) ≤ 4096) ⌝ }
-    ensures { λ r. ⌜ now (out .exit) ≡ take (length (now (out .entry))) ((stream (wholeBlocks (length (now (out .entry)))) g) .bytes) ⌝ }
-    ensures { λ r. ⌜ r .generator ≡ (stream (wholeBlocks (length (now (out .entry)))) g) .generator ⌝ }
-    ensures { λ r. ⌜ r .last ≡ chachaBlock ((stream (wholeBlocks (length (now (out .entry))) - 1) g) .generator) ⌝ }
+    requires { ⌜ length (now last) ≡ 64 ⌝ }
+    ensures { λ _. ⌜ now (out .exit) ≡ take (length (now (out .entry))) ((stream (wholeBlocks (length (now (out .entry)))) (now (g .entry))) .bytes) ⌝ }
+    ensures { λ _. ⌜ now (g .exit) ≡ (stream (wholeBlocks (length (now (out .entry)))) (now (g .entry))) .generator ⌝ }
+    ensures { λ _. ⌜ now (last .exit) ≡ serialize (chachaBlock ((stream (wholeBlocks (length (now (out .entry))) - 1) (now (g .entry))) .generator)) ⌝ }
 {
-    let mut s = g;
-    let mut b = g;
     let mut k: usize = 0;
-    while k < out.len() {
-        let c = block(s);
-        put_block(c, &mut out[k..]);
-        b = c;
-        let n = counted(s);
-        s = n;
+    while 64 < out.len() - k {
+        next_block(g, &mut out[k..]);
         k += 64;
     }
-    Made {
-        generator: s,
-        last: b,
-    }
+    next_block(g, last);
+    lay_front(out, k, last);
 }
 
 // Bytes used of the last block of a read, rounded up to 4.
@@ -97,18 +86,14 @@ pub fn generate(g: &mut [u32; 16], out: &mut [u8])
     if len == 0 {
         return;
     }
-    let s = *g;
-    let m = fill(s, out);
-    let t = m.generator;
+    let mut last = [0u8; 64];
+    fill(g, out, &mut last);
     let used = used_up(len);
     if 64 < used + 32 {
-        let b = block(t);
-        let c = counted(t);
-        let r = rekeyed(c, b, 0);
-        *g = r;
+        next_block(g, &mut last);
+        onto_key(&mut g[..], &last[..32]);
         return;
     }
-    let b = m.last;
-    let r = rekeyed(t, b, used / 4);
-    *g = r;
+    let end = used + 32;
+    onto_key(&mut g[..], &last[used..end]);
 }

@@ -10,9 +10,7 @@ ghost use Rattle.sha1.specs.Sha1.{compressed};
 pub extern "C" fn leaf_chacha(state: &[u32; 16], out: &mut [u8])
     ensures { λ _. ⌜ now (out .exit) ≡ sets (now (out .entry)) 0 (serialize (chachaBlock (now (state .entry)))) ⌝ }
 {
-    let s = *state;
-    let b = chacha::block(s);
-    chacha::put_block(b, out);
+    chacha::lay_block(state, out);
 }
 
 // The hash value after one more block.

@@ -59,33 +59,9 @@ hash-done ws h r k le i =
     rw z at i
 
 -- ---- hashes as bytes
--- a list of five, written out
-five : (h : List ℕ) → length h ≡ 5 → h ≡ getD h 0 0 ∷ getD h 1 0 ∷ getD h 2 0 ∷ getD h 3 0 ∷ getD h 4 0 ∷ []
-five h l =
-    drop-cons h 0 0 (omega arith)
-    ∙ ap (λ (t : List ℕ). getD h 0 0 ∷ t)
-    (drop-cons h 1 0 (omega arith)
-    ∙ ap (λ (t : List ℕ). getD h 1 0 ∷ t)
-    (drop-cons h 2 0 (omega arith)
-    ∙ ap (λ (t : List ℕ). getD h 2 0 ∷ t)
-    (drop-cons h 3 0 (omega arith)
-    ∙ ap (λ (t : List ℕ). getD h 3 0 ∷ t) (drop-cons h 4 0 (omega arith) ∙ ap (λ (t : List ℕ). getD h 4 0 ∷ t) (drop-of-length-le h {i = 5} (omega arith))))))
-
 -- four bytes, written out
 abbrev four : List ℕ → List ℕ → List ℕ
 four a t = getD a 0 0 ∷ getD a 1 0 ∷ getD a 2 0 ∷ getD a 3 0 ∷ t
-
--- those of five words
-words-five : (v w x y z : ℕ)
-    → four (leBytes 4 v) (four (leBytes 4 w) (four (leBytes 4 x) (four (leBytes 4 y) (four (leBytes 4 z) [])))) ≡ wordsBytes (v ∷ w ∷ x ∷ y ∷ z ∷ [])
-unfolding leBytes wordsBytes
-words-five v w x y z = refl
-
--- .. and of a hash
-pub bytes-five : (h a b c d e : List ℕ) → length h ≡ 5
-    → a ≡ leBytes 4 (getD h 0 0) → b ≡ leBytes 4 (getD h 1 0) → c ≡ leBytes 4 (getD h 2 0) → d ≡ leBytes 4 (getD h 3 0) → e ≡ leBytes 4 (getD h 4 0)
-    → four a (four b (four c (four d (four e [])))) ≡ wordsBytes h
-bytes-five h a b c d e l ea eb ec ed ee = rw (ea, eb, ec, ed, ee) (words-five _ _ _ _ _ ∙ ap wordsBytes (sym (five h l)))
 
 -- the ten of a folded hash
 pub bytes-folded : (h a b c : List ℕ) (r : ℕ) → a ≡ leBytes 4 (bitXor (getD h 0 0) (getD h 3 0)) → b ≡ leBytes 4 (bitXor (getD h 1 0) (getD h 4 0))

@@ -1,2 +1,3 @@
+mod Twist
 pub mod Mixes
 pub mod Blocks

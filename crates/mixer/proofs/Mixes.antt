@@ -1,23 +1,25 @@
--- What the proofs of mixing cite: masks, the shape of a pool by its word count, one byte, one byte more. Assumes nothing.
-use mathlib.Core.Path.{_≡_, refl}
+-- What the proofs of mixing cite: masks, the shape of a pool by its word count, one byte, bytes after bytes. Assumes nothing.
+use mathlib.Core.Path.{_≡_, refl, sym, ap, _∙_}
 use mathlib.Core.Logic.{_⊎_, inl, inr, ⊎-elim}
-use mathlib.Core.List.{List, [], _∷_}
+use mathlib.Core.List.{List, [], _∷_, _++_}
 use Prim.Native.Nat.{ℕ, _+_, _-_, _%_, _≤_, _<_}
-use native.Mathlib.Nat.{add-zero}
-use native.Mathlib.Numerals.{add-one}
+use native.Mathlib.Nat.{add-zero, mod-lt}
 use native.Mathlib.Omega.{arith}
 use borrow.Author.Tests.{eq-eqb, ne-eqb}
 use lib.Bits.{bitAnd, bitXor, and-mask}
-use lib.ListN.{length, getD, set, drop, drop-of-length-le}
-use lib.Seq.{drop-cons}
+use lib.ListN.{length, getD, set, length-set}
+use lib.Seq.{getD-set-same}
 use Rattle.words.specs.Words.{rotl}
 use Rattle.ledger.specs.Choice.{pick}
 use Rattle.ledger.specs.Shapes.{Shape}
-use Rattle.ledger.specs.Places.{stepped}
+use Rattle.ledger.specs.Places.{turned}
 use Rattle.ledger.specs.declared.Spot.{Spot}
 use Rattle.mixer.specs.declared.mixing.Taps.{Taps}
+use Rattle.mixer.specs.declared.mixing.Place.{Place}
 use Rattle.pool.specs.Mixing.{Pool, twisted, tapped, mixedWords, mixByte, mix}
-use Rattle.mixer.specs.Sizes.{shapeOf, Size, InPool, listed}
+use Rattle.mixer.specs.Sizes.{shapeOf, Size, InPool, farTaps, TapsOf}
+use Rattle.mixer.specs.Mixed.{spotOf, Stands, Mixed}
+use Rattle.mixer.proofs.Twist.{twist-xor}
 
 -- a mask is the remainder, at either size
 pub masked : (j n : ℕ) → (n ≡ 128) ⊎ (n ≡ 32) → bitAnd j (n - 1) ≡ j % n
@@ -35,41 +37,86 @@ in-input s h k = record { place = h; turning = k; size = record { few = omega ar
 pub in-blocking : (s : Spot) → s .at < 32 → s .turn ≤ 31 → InPool 32 s
 in-blocking s h k = record { place = h; turning = k; size = record { few = omega arith; some = omega arith; one-of = inr refl } }
 
--- the place moves to position 0: the rotation grows by 14
-pub step-zero : (n : ℕ) (s : Spot) (at : ℕ) → Size n → at ≡ (s .at + (n - 1)) % n → at ≡ 0
-    → _≡_ {A = Spot} (record { at = at; turn = (s .turn + 14) % 32 }) (stepped (shapeOf n) s)
+-- the rotation at position 0, and at another one
+pub turned-zero : (at turn : ℕ) → at ≡ 0 → (turn + 14) % 32 ≡ turned at turn
 unfolding pick
-step-zero n s at z e h = rw (shape-words n z, ← e, eq-eqb at 0 h)
+turned-zero at turn h = rw (eq-eqb at 0 h)
 
--- .. to another one: by 7
-pub step-other : (n : ℕ) (s : Spot) (at : ℕ) → Size n → at ≡ (s .at + (n - 1)) % n → (at ≡ 0 → ⊥)
-    → _≡_ {A = Spot} (record { at = at; turn = (s .turn + 7) % 32 }) (stepped (shapeOf n) s)
+pub turned-other : (at turn : ℕ) → (at ≡ 0 → ⊥) → (turn + 7) % 32 ≡ turned at turn
 unfolding pick
-step-other n s at z e h = rw (shape-words n z, ← e, ne-eqb at 0 h)
+turned-other at turn h = rw (ne-eqb at 0 h)
 
--- the words at a position and at five taps
-pub tapped-five : (sh : Shape) (ws : List ℕ) (i a b c d e x : ℕ)
-    → bitXor (bitXor (bitXor (bitXor (bitXor (bitXor x (getD ws (i % sh .words) 0)) (getD ws ((i + a) % sh .words) 0)) (getD ws ((i + b) % sh .words) 0)) (getD ws ((i + c) % sh .words) 0)) (getD ws ((i + d) % sh .words) 0)) (getD ws ((i + e) % sh .words) 0)
-    ≡ tapped sh ws i (0 ∷ a ∷ b ∷ c ∷ d ∷ e ∷ []) x
+-- ---- one byte
+-- the words at a position and at four taps
+pub tapped-four : (sh : Shape) (ws : List ℕ) (i a b c d x : ℕ)
+    → bitXor (bitXor (bitXor (bitXor (bitXor x (getD ws (i % sh .words) 0)) (getD ws ((i + a) % sh .words) 0)) (getD ws ((i + b) % sh .words) 0)) (getD ws ((i + c) % sh .words) 0)) (getD ws ((i + d) % sh .words) 0)
+    ≡ tapped sh ws i (0 ∷ a ∷ b ∷ c ∷ d ∷ []) x
 unfolding tapped
-tapped-five sh ws i a b c d e x = rw (add-zero i)
+tapped-four sh ws i a b c d x = rw (add-zero i)
 
--- one byte is mixed in
-pub put-byte : (sh : Shape) (ws : List ℕ) (t : Taps) (s next : Spot) (b x w v : ℕ) → s .turn ≤ 31 → listed t ≡ sh .taps
-    → next ≡ stepped sh s → x ≡ rotl (s .turn % 32) b → w ≡ tapped sh ws (next .at) (0 ∷ listed t) x → v ≡ twisted w
-    → _≡_ {A = Pool} (record { words = set ws (next .at) v; spot = next }) (mixByte sh (record { words = ws; spot = s }) b)
-unfolding mixedWords
-put-byte sh ws t s next b x w v h ts en ex ew ev =
-    let m : s .turn % 32 ≡ s .turn = omega arith in
-    rw (ev, ew, ex, ts, m, en)
+-- .. and at the fifth
+tapped-five : (sh : Shape) (ws : List ℕ) (i x : ℕ) (t : Taps)
+    → bitXor (tapped sh ws i (0 ∷ farTaps t) x) (getD ws ((i + 1) % sh .words) 0) ≡ tapped sh ws i (0 ∷ t .a ∷ t .b ∷ t .c ∷ t .d ∷ 1 ∷ []) x
+unfolding tapped
+tapped-five sh ws i x t = refl
 
--- one more byte of the list is mixed in
-pub more : (sh : Shape) (p q r : Pool) (bs : List ℕ) (k : ℕ) → k < length bs → q ≡ mixByte sh p (getD bs k 0)
-    → mix sh p (drop k bs) ≡ r → mix sh q (drop (k + 1) bs) ≡ r
+-- the position that a position falls from
+one-up : (n at : ℕ) → Size n → at < n → ((at + (n - 1)) % n + 1) % n ≡ at
+one-up n at z h = ⊎-elim (λ e. one-up-128 n at e h) (λ e. one-up-32 n at e h) (z .one-of)
+  where
+    one-up-128 : (n at : ℕ) → n ≡ 128 → at < n → ((at + (n - 1)) % n + 1) % n ≡ at
+    one-up-128 n at e h = rw e (omega arith)
+
+    one-up-32 : (n at : ℕ) → n ≡ 32 → at < n → ((at + (n - 1)) % n + 1) % n ≡ at
+    one-up-32 n at e h = rw e (omega arith)
+
+-- one byte is mixed in: w is blended of all words but the one written last, u and v are the two twists
+pub put-byte : (ws : List ℕ) (t : Taps) (p r : Place) (b x w u v : ℕ) → Stands ws p → TapsOf (length ws) t
+    → r .at ≡ (p .at + (length ws - 1)) % length ws → r .turn ≡ turned (r .at) (p .turn) → r .last ≡ bitXor u v
+    → x ≡ rotl (p .turn % 32) b → w ≡ tapped (shapeOf (length ws)) ws (r .at) (0 ∷ farTaps t) x → u ≡ twisted w → v ≡ twisted (p .last)
+    → Mixed ws (spotOf p) (b ∷ []) (set ws (r .at) (r .last)) r
+unfolding mix mixedWords
+put-byte ws t p r b x w u v st ts ea et el ex ew eu ev =
+    let n : ℕ = length ws in
+    let sh = shapeOf n in
+    let z = st .inside .size in
+    let sw = shape-words n z in
+    let m : p .turn % 32 ≡ p .turn = omega (arith, st .inside .turning) in
+    let below : r .at < n = rw ea (mod-lt (p .at + (n - 1)) (z .some)) in
+    let up : (r .at + 1) % sh .words ≡ p .at = rw (sw, ea) (one-up n (p .at) z (st .inside .place)) in
+    let near : p .last ≡ getD ws ((r .at + 1) % sh .words) 0 = st .last-is ∙ ap (λ (j : ℕ). getD ws j 0) (sym up) in
+    let all : bitXor w (p .last) ≡ tapped sh ws (r .at) (0 ∷ sh .taps) (rotl (p .turn) b) =
+    rw (ew, near, ex, m) (tapped-five sh ws (r .at) (rotl (p .turn) b) t ∙ ap (λ (l : List ℕ). tapped sh ws (r .at) (0 ∷ l) (rotl (p .turn) b)) (ts .these)) in
+    let e : r .last ≡ twisted (tapped sh ws (r .at) (0 ∷ sh .taps) (rotl (p .turn) b)) =
+    el ∙ (rw (eu, ev) (twist-xor w (p .last))) ∙ ap twisted all in
+    let l : length (set ws (r .at) (r .last)) ≡ n = length-set ws (r .at) (r .last) in
+    record {
+      stands =
+          record {
+            inside = rw l (record { place = below; turning = omega (arith, et); size = z });
+            last-is = sym (getD-set-same ws (r .at) (r .last) 0 below);
+          };
+      as-many = l;
+      pool = rw (et, e, ea, sw);
+    }
+
+-- ---- bytes after bytes
+-- nothing is mixed in yet
+pub mixed-none : (ws : List ℕ) (p : Place) → Stands ws p → Mixed ws (spotOf p) [] ws p
 unfolding mix
-more sh p q r bs k h e i = rw (e, add-one) (rw (drop-cons bs k 0 h) at i)
+mixed-none ws p h = record { stands = h; as-many = refl; pool = refl }
 
--- none is left
-pub done : (sh : Shape) (p r : Pool) (bs : List ℕ) (k : ℕ) → length bs ≤ k → mix sh p (drop k bs) ≡ r → p ≡ r
+mix-append : (sh : Shape) (p : Pool) (xs ys : List ℕ) → mix sh p (xs ++ ys) ≡ mix sh (mix sh p xs) ys
 unfolding mix
-done sh p r bs k h i = rw (drop-of-length-le bs h) at i
+mix-append sh p [] ys = refl
+mix-append sh p (x ∷ xs) ys = mix-append sh (mixByte sh p x) xs ys
+
+-- some, and then others
+pub mixed-then : (start : List ℕ) (s : Spot) (xs ys all ws vs : List ℕ) (p q : Place) → xs ++ ys ≡ all
+    → Mixed start s xs ws p → Mixed ws (spotOf p) ys vs q → Mixed start s all vs q
+mixed-then start s xs ys all ws vs p q e f g =
+    record {
+      stands = g .stands;
+      as-many = g .as-many ∙ f .as-many;
+      pool = rw (← e, mix-append (shapeOf (length start)) (record { words = start; spot = s }) xs ys, ← f .pool) (rw (f .as-many) at (g .pool));
+    }

@@ -25,15 +25,14 @@ pub record InPool (n : ℕ) (s : Spot) : Type 0 where
   pub turning : s .turn ≤ 31
   pub size : Size n
 
--- the taps as a list
-abbrev pub listed : Taps → List ℕ
-listed t = t .a ∷ t .b ∷ t .c ∷ t .d ∷ t .e ∷ []
+-- the taps, but for the last, as a list
+abbrev pub farTaps : Taps → List ℕ
+farTaps t = t .a ∷ t .b ∷ t .c ∷ t .d ∷ []
 
 -- the taps of a pool of n words
 pub record TapsOf (n : ℕ) (t : Taps) : Type 0 where
-  pub these : listed t ≡ (shapeOf n) .taps
+  pub these : (t .a ∷ t .b ∷ t .c ∷ t .d ∷ 1 ∷ []) ≡ (shapeOf n) .taps
   pub a-small : t .a ≤ 128
   pub b-small : t .b ≤ 128
   pub c-small : t .c ≤ 128
   pub d-small : t .d ≤ 128
-  pub e-small : t .e ≤ 128

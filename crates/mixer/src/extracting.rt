@@ -14,6 +14,7 @@ use ledger::Spot;
 use sha1::compress;
 use sha1::initial_hash;
 use words::bytes_of_u32;
+use words::put_u32;
 use words::rotate_left;
 use words::swap_bytes;
 
@@ -46,39 +47,6 @@ fn hash_pool(ws: &[u32]) -> [u32; 5]
     h
 }
 
-// A hash as 20 bytes.
-fn five_bytes(h: [u32; 5]) -> [u8; 20]
-    ensures { λ r. ⌜ r ≡ wordsBytes h ⌝ }
-{
-    let a = bytes_of_u32(h[0]);
-    let b = bytes_of_u32(h[1]);
-    let c = bytes_of_u32(h[2]);
-    let d = bytes_of_u32(h[3]);
-    let e = bytes_of_u32(h[4]);
-    [
-        a[0],
-        a[1],
-        a[2],
-        a[3],
-        b[0],
-        b[1],
-        b[2],
-        b[3],
-        c[0],
-        c[1],
-        c[2],
-        c[3],
-        d[0],
-        d[1],
-        d[2],
-        d[3],
-        e[0],
-        e[1],
-        e[2],
-        e[3],
-    ]
-}
-
 // The ten bytes that a hash is folded to.
 fn folded(h: [u32; 5]) -> [u8; 10]
     ensures { λ r. ⌜ r ≡ folded h ⌝ }
@@ -89,13 +57,27 @@ fn folded(h: [u32; 5]) -> [u8; 10]
     [a[0], a[1], a[2], a[3], b[0], b[1], b[2], b[3], c[0], c[1]]
 }
 
-// A hash mixed back into its pool.
+// A hash as bytes.
+fn hash_bytes(h: [u32; 5]) -> [u8; 20]
+    ensures { λ r. ⌜ r ≡ wordsBytes h ⌝ }
+{
+    let mut b = [0u8; 20];
+    let mut i: usize = 0;
+    while i < 5 {
+        put_u32(&mut b, i * 4, h[i]);
+        i += 1;
+    }
+    b
+}
+
+// A hash mixed back into its pool. It goes in as bytes and not as words: under an extraction the stack is deepest, and `mix` needs less of it
+// than `mix_words`.
 fn mix_back(ws: &mut [u32], s: Spot, h: [u32; 5]) -> Spot
     requires { ⌜ InPool (length (now ws)) s ⌝ }
     ensures { λ r. ⌜ (record { words = now (ws .exit); spot = r }) ≡ mix (shapeOf (length (now (ws .entry)))) (record { words = now (ws .entry); spot = s }) (wordsBytes h) ⌝ }
     ensures { λ r. ⌜ InPool (length (now (ws .entry))) r ⌝ }
 {
-    let b = five_bytes(h);
+    let b = hash_bytes(h);
     mix(ws, s, &b)
 }
 

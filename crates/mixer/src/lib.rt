@@ -9,4 +9,4 @@ pub mod mixing;
 
 pub use extracting::extract;
 pub use mixing::mix;
-pub use mixing::mix_byte;
+pub use mixing::mix_words;

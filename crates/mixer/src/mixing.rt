@@ -1,21 +1,30 @@
 // Mixing bytes into a pool of 128 or 32 words, once for both.
 ghost use mathlib.Core.Path.{_≡_};
-ghost use mathlib.Core.List.{_∷_};
-ghost use Prim.Native.Nat.{_<_, _%_};
+ghost use mathlib.Core.List.{[], _∷_};
+ghost use Prim.Native.Nat.{_<_, _≤_, _%_};
 ghost use lib.ListN.{length, getD};
-ghost use Rattle.ledger.specs.Places.{stepped};
-ghost use Rattle.pool.specs.Mixing.{twistTable, twisted, tapped, mixByte, mix};
-ghost use Rattle.mixer.specs.Sizes.{shapeOf, Size, InPool, listed, TapsOf};
+ghost use Rattle.words.specs.Bytes.{leBytes, wordsBytes};
+ghost use Rattle.ledger.specs.Places.{turned};
+ghost use Rattle.pool.specs.Mixing.{twistTable, twisted, tapped, mix};
+ghost use Rattle.mixer.specs.Sizes.{shapeOf, Size, InPool, farTaps, TapsOf};
+ghost use Rattle.mixer.specs.Mixed.{spotOf, Stands, Mixed};
 use ledger::Spot;
 use words::rotate_left;
 
-// The taps of a pool.
+// The taps of a pool, but for the last, which is 1 in both.
 struct Taps {
     a: usize,
     b: usize,
     c: usize,
     d: usize,
-    e: usize,
+}
+
+// A pool's place while bytes go in: position and rotation, and the word at the position. It is the one that was written last, and tap 1
+// of the next byte: kept here, no byte waits for a store and a load of it.
+struct Place {
+    at: usize,
+    turn: u32,
+    last: u32,
 }
 
 const TWISTS: [u32; 8] = [
@@ -39,7 +48,6 @@ fn taps_of(n: usize) -> Taps
             b: 76,
             c: 51,
             d: 25,
-            e: 1,
         }
     } else {
         Taps {
@@ -47,7 +55,6 @@ fn taps_of(n: usize) -> Taps
             b: 19,
             c: 14,
             d: 7,
-            e: 1,
         }
     }
 }
@@ -69,24 +76,15 @@ fn twist(w: u32, table: &[u32]) -> u32
     (w >> 3) ^ table[k]
 }
 
-// The place of the next byte, in a pool of n words.
-fn advance(s: Spot, n: usize) -> Spot
-    requires { ⌜ InPool n s ⌝ }
-    ensures { λ r. ⌜ r ≡ stepped (shapeOf n) s ⌝ }
-    ensures { λ r. ⌜ InPool n r ⌝ }
+// The rotation after a byte went in at a position.
+fn turned(at: usize, turn: u32) -> u32
+    requires { ⌜ turn ≤ 31 ⌝ }
+    ensures { λ r. ⌜ (r ≡ turned at turn) × (r ≤ 31) ⌝ }
 {
-    let at = around(s.at as usize + (n - 1), n) as u32;
     if at == 0 {
-        Spot {
-            at: at,
-            turn: (s.turn + 14) % 32,
-        }
-    } else {
-        Spot {
-            at: at,
-            turn: (s.turn + 7) % 32,
-        }
+        return (turn + 14) % 32;
     }
+    (turn + 7) % 32
 }
 
 // The word at j, modulo the word count.
@@ -98,12 +96,12 @@ fn word_at(ws: &[u32], j: usize) -> u32
     ws[k]
 }
 
-// x with the word at i and the tapped words xored in.
+// x with the word at i and the words at four taps xored in.
 fn blend(ws: &[u32], t: Taps, i: usize, x: u32) -> u32
     requires { ⌜ Size (length (now ws)) ⌝ }
     requires { ⌜ TapsOf (length (now ws)) t ⌝ }
     requires { ⌜ i < length (now ws) ⌝ }
-    ensures { λ r. ⌜ r ≡ tapped (shapeOf (length (now (ws .entry)))) (now (ws .entry)) i (0 ∷ listed t) x ⌝ }
+    ensures { λ r. ⌜ r ≡ tapped (shapeOf (length (now (ws .entry)))) (now (ws .entry)) i (0 ∷ farTaps t) x ⌝ }
 {
     x
         ^ word_at(ws, i)
@@ -111,33 +109,85 @@ fn blend(ws: &[u32], t: Taps, i: usize, x: u32) -> u32
         ^ word_at(ws, i + t.b)
         ^ word_at(ws, i + t.c)
         ^ word_at(ws, i + t.d)
-        ^ word_at(ws, i + t.e)
 }
 
-// One byte mixed in, with the taps of the pool.
-fn put(ws: &mut [u32], t: Taps, table: &[u32], s: Spot, b: u8) -> Spot
+// One byte mixed in. A twist of two words' xor is the xor of their twists: so the word that was written last comes in after all
+// that does not wait for it.
+fn put(ws: &mut [u32], t: Taps, table: &[u32], p: Place, b: u8) -> Place
     requires { ⌜ now table ≡ twistTable ⌝ }
-    requires { ⌜ InPool (length (now ws)) s ⌝ }
+    requires { ⌜ Stands (now ws) p ⌝ }
     requires { ⌜ TapsOf (length (now ws)) t ⌝ }
-    ensures { λ r. ⌜ (record { words = now (ws .exit); spot = r }) ≡ mixByte (shapeOf (length (now (ws .entry)))) (record { words = now (ws .entry); spot = s }) b ⌝ }
-    ensures { λ r. ⌜ InPool (length (now (ws .entry))) r ⌝ }
+    ensures { λ r. ⌜ Mixed (now (ws .entry)) (spotOf p) (b ∷ []) (now (ws .exit)) r ⌝ }
 {
-    let next = advance(s, ws.len());
-    let at = next.at as usize;
-    let w = blend(ws, t, at, rotate_left(b as u32, s.turn));
-    ws[at] = twist(w, table);
-    next
+    let n = ws.len();
+    let at = around(p.at + (n - 1), n);
+    let w = blend(ws, t, at, rotate_left(b as u32, p.turn));
+    let v = twist(w, table) ^ twist(p.last, table);
+    ws[at] = v;
+    let turn = turned(at, p.turn);
+    Place {
+        at: at,
+        turn: turn,
+        last: v,
+    }
 }
 
-// One byte mixed into a pool of 128 or 32 words.
-pub fn mix_byte(ws: &mut [u32], s: Spot, b: u8) -> Spot
+// A word mixed in as its four bytes, the lowest first.
+fn put_word(ws: &mut [u32], t: Taps, table: &[u32], p: Place, x: u32) -> Place
+    requires { ⌜ now table ≡ twistTable ⌝ }
+    requires { ⌜ Stands (now ws) p ⌝ }
+    requires { ⌜ TapsOf (length (now ws)) t ⌝ }
+    ensures { λ r. ⌜ Mixed (now (ws .entry)) (spotOf p) (leBytes 4 x) (now (ws .exit)) r ⌝ }
+{
+    let x1 = x / 256;
+    let x2 = x1 / 256;
+    let x3 = x2 / 256;
+    let p1 = put(ws, t, table, p, (x % 256) as u8);
+    let p2 = put(ws, t, table, p1, (x1 % 256) as u8);
+    let p3 = put(ws, t, table, p2, (x2 % 256) as u8);
+    put(ws, t, table, p3, (x3 % 256) as u8)
+}
+
+// The place of a spot.
+fn place_of(ws: &[u32], s: Spot) -> Place
     requires { ⌜ InPool (length (now ws)) s ⌝ }
-    ensures { λ r. ⌜ (record { words = now (ws .exit); spot = r }) ≡ mixByte (shapeOf (length (now (ws .entry)))) (record { words = now (ws .entry); spot = s }) b ⌝ }
+    ensures { λ r. ⌜ (spotOf r ≡ s) × Stands (now (ws .entry)) r ⌝ }
+{
+    let at = s.at as usize;
+    let w = ws[at];
+    Place {
+        at: at,
+        turn: s.turn,
+        last: w,
+    }
+}
+
+// .. and back.
+fn spot_of(p: Place) -> Spot
+    requires { ⌜ p .at < 128 ⌝ }
+    ensures { λ r. ⌜ r ≡ spotOf p ⌝ }
+{
+    Spot {
+        at: p.at as u32,
+        turn: p.turn,
+    }
+}
+
+// Words mixed into a pool of 128 or 32 words, each as its four bytes, the first first.
+pub fn mix_words(ws: &mut [u32], s: Spot, words: &[u32]) -> Spot
+    requires { ⌜ InPool (length (now ws)) s ⌝ }
+    ensures { λ r. ⌜ (record { words = now (ws .exit); spot = r }) ≡ mix (shapeOf (length (now (ws .entry)))) (record { words = now (ws .entry); spot = s }) (wordsBytes (now (words .entry))) ⌝ }
     ensures { λ r. ⌜ InPool (length (now (ws .entry))) r ⌝ }
 {
     let t = taps_of(ws.len());
     let table = TWISTS;
-    put(ws, t, &table, s, b)
+    let mut p = place_of(ws, s);
+    let mut k = 0;
+    while k < words.len() {
+        p = put_word(ws, t, &table, p, words[k]);
+        k += 1;
+    }
+    spot_of(p)
 }
 
 // Bytes mixed into a pool of 128 or 32 words, the first first.
@@ -148,11 +198,11 @@ pub fn mix(ws: &mut [u32], s: Spot, bytes: &[u8]) -> Spot
 {
     let t = taps_of(ws.len());
     let table = TWISTS;
-    let mut spot = s;
+    let mut p = place_of(ws, s);
     let mut k = 0;
     while k < bytes.len() {
-        spot = put(ws, t, &table, spot, bytes[k]);
+        p = put(ws, t, &table, p, bytes[k]);
         k += 1;
     }
-    spot
+    spot_of(p)
 }

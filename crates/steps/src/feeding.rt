@@ -70,8 +70,7 @@ pub fn interrupt_on(
         return refused(l, p.number);
     }
     stir(fast, at, number, stamp, address);
-    let f = *fast;
-    let fed = spill(&mut input[..], l.input_spot, f, p.feeds);
+    let fed = spill(&mut input[..], l.input_spot, fast, p.feeds);
     let s = reseed(&mut input[..], fed, &mut generator[..], p.reseed);
     carried_out(p, s, l.blocking_spot)
 }

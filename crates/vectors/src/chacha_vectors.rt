@@ -24,13 +24,8 @@ fn state(key: [u32; 8], counter: u32, nonce: [u32; 3]) -> [u32; 16] {
 }
 
 fn quarter_rounds() {
-    let mut four = [0u32; 16];
-    four[0] = 0x1111_1111;
-    four[1] = 0x0102_0304;
-    four[2] = 0x9b8d_6f43;
-    four[3] = 0x0123_4567;
-    let a = chacha::quarter_round(four, 0, 1, 2, 3);
-    print::words(b"RFC 7539 2.1.1 quarter round:", &[a[0], a[1], a[2], a[3]]);
+    let a = chacha::quarter(0x1111_1111, 0x0102_0304, 0x9b8d_6f43, 0x0123_4567);
+    print::words(b"RFC 7539 2.1.1 quarter round:", &[a.a, a.b, a.c, a.d]);
     let sixteen = [
         0x8795_31e0,
         0xc5ec_f37d,
@@ -49,15 +44,19 @@ fn quarter_rounds() {
         0x2098_d9d6,
         0x91db_d320,
     ];
-    let b = chacha::quarter_round(sixteen, 2, 7, 8, 13);
+    let q = chacha::quarter(sixteen[2], sixteen[7], sixteen[8], sixteen[13]);
+    let mut b = sixteen;
+    b[2] = q.a;
+    b[7] = q.b;
+    b[8] = q.c;
+    b[13] = q.d;
     print::words(b"RFC 7539 2.2.1 quarter round (2, 7, 8, 13):", &b);
 }
 
 // The block of a state, as it lies in a room.
 fn block(label: &[u8], s: [u32; 16]) {
-    let b = chacha::block(s);
     let mut room = [0u8; 64];
-    chacha::put_block(b, &mut room);
+    chacha::lay_block(&s, &mut room);
     print::bytes(label, &room);
 }
 
@@ -66,10 +65,10 @@ fn rooms(s: [u32; 16]) {
     let b = chacha::block(s);
     print::words(b"RFC 7539 2.3.2 words:", &b);
     let mut short = [0xeeu8; 10];
-    chacha::put_block(b, &mut short);
+    chacha::lay_block(&s, &mut short);
     print::bytes(b"RFC 7539 2.3.2 in a room of 10: ", &short);
     let mut long = [0xeeu8; 70];
-    chacha::put_block(b, &mut long);
+    chacha::lay_block(&s, &mut long);
     print::bytes(b"RFC 7539 2.3.2 in a room of 70: ", &long);
 }
 

@@ -1,11 +1,11 @@
 -- Bytes laid over a room that is lent: a run of stores, `sets` of the kit. Assumes nothing.
-use mathlib.Core.Path.{_≡_, refl, ap}
+use mathlib.Core.Path.{_≡_, refl, ap, _∙_}
 use mathlib.Core.List.{List, [], _∷_, _++_}
 use Prim.Native.Nat.{ℕ, suc, _+_, _*_, _<_, _≤_}
 use native.Mathlib.Nat.{add-zero}
 use native.Mathlib.Omega.{arith}
 use lib.ListN.{length, getD, set, take, drop, take-append-drop}
-use lib.Seq.{sets, take-suc, length-take-le, take-set-lt, drop-set-lt}
+use lib.Seq.{sets, take-all, take-suc, length-take-le, take-set-lt, drop-set-lt}
 use Rattle.words.specs.Bytes.{leBytes, wordsBytes}
 use Rattle.words.proofs.Numbers.{length-wordsBytes, wordsBytes-suc}
 
@@ -34,3 +34,24 @@ pub sets-front : (n : ℕ) (l : List ℕ) (i : ℕ) (vs : List ℕ) → i + leng
 sets-front n l i [] h = take-append-drop n l
 sets-front n l i (v ∷ vs) h =
     rw (← take-set-lt n l i v (omega arith), ← drop-set-lt n l i v (omega arith)) (sets-front n (set l i v) (suc i) vs (omega arith))
+
+-- ---- the whole of a room
+-- past its first place
+pub sets-cons : (x : ℕ) (l : List ℕ) (i : ℕ) (vs : List ℕ) → sets (x ∷ l) (suc i) vs ≡ x ∷ sets l i vs
+sets-cons x l i [] = refl
+sets-cons x l i (v ∷ vs) = sets-cons x (set l i v) (suc i) vs
+
+-- over no room at all
+pub sets-none : (i : ℕ) (vs : List ℕ) → sets [] i vs ≡ []
+sets-none i [] = refl
+sets-none i (v ∷ vs) = sets-none (suc i) vs
+
+-- over the whole of it: what has no place is dropped
+pub sets-over : (l vs : List ℕ) → length l ≤ length vs → sets l 0 vs ≡ take (length l) vs
+sets-over [] vs h = sets-none 0 vs
+sets-over (x ∷ l) [] h = absurd (omega arith)
+sets-over (x ∷ l) (v ∷ vs) h = sets-cons v l 0 vs ∙ ap (λ (t : List ℕ). v ∷ t) (sets-over l vs (omega arith))
+
+-- a room of just as many bytes takes them all
+pub sets-whole : (l vs : List ℕ) → length l ≡ length vs → sets l 0 vs ≡ vs
+sets-whole l vs e = sets-over l vs (omega arith) ∙ take-all (length l) vs (omega arith)

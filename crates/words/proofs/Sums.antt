@@ -36,3 +36,11 @@ module _ (f : ℕ → ℕ → ℕ) where
   length-zipWith [] ys e = e
   length-zipWith (x ∷ xs) (y ∷ ys) e = ap suc (length-zipWith xs ys (omega arith))
   length-zipWith (x ∷ xs) [] e = absurd (omega arith)
+
+  -- a place of two lists, joined
+  pub getD-zipWith : (i : ℕ) (xs ys : List ℕ) → i < length xs → i < length ys → getD (zipWith f xs ys) i 0 ≡ f (getD xs i 0) (getD ys i 0)
+  unfolding zipWith
+  getD-zipWith zero (x ∷ xs) (y ∷ ys) h k = refl
+  getD-zipWith (suc i) (x ∷ xs) (y ∷ ys) h k = getD-zipWith i xs ys (omega arith) (omega arith)
+  getD-zipWith i [] ys h k = absurd (omega arith)
+  getD-zipWith i (x ∷ xs) [] h k = absurd (omega arith)

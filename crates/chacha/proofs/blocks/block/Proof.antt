@@ -1,54 +1,17 @@
-use mathlib.Core.Path.{_≡_, refl, ap, _∙_}
-use Prim.Native.Nat.{_≤_, _-_}
-use native.Mathlib.Omega.{arith}
-use native.Mathlib.Numerals.{add-one}
-use Rattle.chacha.specs.Chacha.{innerBlock, rounds, chachaBlock}
+use Rattle.chacha.specs.Chacha.{chachaBlock}
 use borrow.Author.Needs.{needs}
 use Rattle.chacha.proofs.blocks.block.Statement.{statement}
 use Rattle.chacha.proofs.blocks.block.Tie as tie
 
-abbrev Inv-loop : tie.InvT-loop
-Inv-loop s t₀ n₀ t n = (n ≤ 10) × (t ≡ rounds n s)
+rounds-requires : tie.Need-rounds-requires
+rounds-requires c κs = search needs
 
-abbrev μ-loop : tie.MeasureT-loop
-μ-loop s t₀ n₀ t n = 10 - n
-
-loop-holds : tie.Need-loop-holds Inv-loop μ-loop
-unfolding rounds
-loop-holds c = (search needs, refl)
-
-inner-block-requires : tie.Need-inner-block-requires Inv-loop μ-loop
-inner-block-requires c κs = search needs
-
-add-n : tie.Need-add-n Inv-loop μ-loop
-add-n c = search needs
-
-loop-less : tie.Need-loop-less Inv-loop μ-loop
-loop-less c = search needs
-
-loop-again : tie.Need-loop-again Inv-loop μ-loop
-unfolding rounds
-loop-again c = (search needs, rw add-one (c .inner-block .ensures ∙ ap innerBlock (c .before .before .loop .inv .1)))
-
-add-words-requires : tie.Need-add-words-requires Inv-loop μ-loop
+add-words-requires : tie.Need-add-words-requires
 add-words-requires c κs = search needs
 
-returns : tie.Need-returns Inv-loop μ-loop
+returns : tie.Need-returns
 unfolding chachaBlock
-returns c =
-    let e : c .before .before .loop .n ≡ 10 = omega arith in
-    rw (c .add-words .ensures, c .before .before .loop .inv .1, e)
+returns c = rw (c .add-words .ensures, c .before .rounds .ensures)
 
 pub block-spec : {M : Type 1} → statement M
-block-spec =
-    tie.close
-    (tie.spec
-    Inv-loop
-    μ-loop
-    loop-holds
-    inner-block-requires
-    add-n
-    loop-less
-    loop-again
-    add-words-requires
-    returns)
+block-spec = tie.close (tie.spec rounds-requires add-words-requires returns)

@@ -1,7 +1,7 @@
 -- `generator::reading::fill` meets its contract: at k the room has the bytes of k / 64 blocks, and the generator has counted them.
 -- Assumes nothing.
 use mathlib.Core.Path.{_≡_, refl}
-use Prim.Native.Nat.{_+_, _-_}
+use Prim.Native.Nat.{_<_, _-_}
 use native.Mathlib.Omega.{arith}
 use lib.ListN.{length}
 use Rattle.generator.proofs.Laying.{Filled, filled-none, filled-more, filled-all}
@@ -10,31 +10,28 @@ use Rattle.generator.proofs.reading.fill.Statement.{statement}
 use Rattle.generator.proofs.reading.fill.Tie as tie
 
 abbrev Inv-loop : tie.InvT-loop
-Inv-loop out₀ s₀ b₀ k₀ out s b k = (length out ≡ length out₀) × Filled s₀ out₀ out s b k
+Inv-loop g₀ out₀ last k₀ g out k = (k < length out₀) × (length out ≡ length out₀) × Filled g₀ out₀ out g k
 
 abbrev μ-loop : tie.MeasureT-loop
-μ-loop out₀ s₀ b₀ k₀ out s b k = length out₀ + 64 - k
+μ-loop g₀ out₀ last k₀ g out k = length out₀ - k
 
 loop-holds : tie.Need-loop-holds Inv-loop μ-loop
-loop-holds c = (refl, filled-none _ _ _)
+loop-holds c = (search needs, refl, filled-none _ _)
 
-block-requires : tie.Need-block-requires Inv-loop μ-loop
-block-requires c κs = search needs
+sub-loop : tie.Need-sub-loop Inv-loop μ-loop
+sub-loop c = search needs
 
-sub-put-block : tie.Need-sub-put-block Inv-loop μ-loop
-sub-put-block c = search needs
+sub-next-block : tie.Need-sub-next-block Inv-loop μ-loop
+sub-next-block c = search needs
 
-part-put-block-start : tie.Need-part-put-block-start Inv-loop μ-loop
-part-put-block-start c = search needs
+part-next-block-start : tie.Need-part-next-block-start Inv-loop μ-loop
+part-next-block-start c = search needs
 
-part-put-block-end : tie.Need-part-put-block-end Inv-loop μ-loop
-part-put-block-end c = search needs
+part-next-block-end : tie.Need-part-next-block-end Inv-loop μ-loop
+part-next-block-end c = search needs
 
-put-block-requires : tie.Need-put-block-requires Inv-loop μ-loop
-put-block-requires c κs = search needs
-
-counted-requires : tie.Need-counted-requires Inv-loop μ-loop
-counted-requires c κs = search needs
+next-block-requires : tie.Need-next-block-requires Inv-loop μ-loop
+next-block-requires c κs = search needs
 
 add-k : tie.Need-add-k Inv-loop μ-loop
 add-k c = search needs
@@ -44,20 +41,32 @@ loop-less c = search needs
 
 loop-again : tie.Need-loop-again Inv-loop μ-loop
 loop-again c =
-    let p = c .before .before .before in
-    let t = p .before .before .before in
-    let l = t .before .loop in
-    let a = t .before .before .before .args in
-    (omega arith, filled-more (a .g) (a .out .now) (l .out) (l .s) (l .b) _ _ _ (l .k) (omega arith) (t .loop-test .taken) (p .before .before .block .ensures) (c .counted .ensures) (p .put-block .ensures) (l .inv .1))
+    let n : tie.After-next-block Inv-loop μ-loop = search in
+    let loop : tie.At-loop Inv-loop μ-loop = search in
+    let b = n .next-block .ensures in
+    (omega arith, omega arith, filled-more _ _ _ _ _ _ _ (b .1 .1) (b .1 .0) (b .0) (loop .loop .inv .2))
+
+next-block-requires-2 : tie.Need-next-block-requires-2 Inv-loop μ-loop
+next-block-requires-2 c κs = search needs
+
+lay-front-requires : tie.Need-lay-front-requires Inv-loop μ-loop
+lay-front-requires c κs =
+    let n : tie.After-next-block2 Inv-loop μ-loop = search in
+    (omega arith, omega (arith, n .next-block2 .kept .1 .0))
 
 same-length : tie.Need-same-length Inv-loop μ-loop
 same-length c = search needs
 
+same-length-2 : tie.Need-same-length-2 Inv-loop μ-loop
+same-length-2 c = search needs
+
 returns : tie.Need-returns Inv-loop μ-loop
 returns c =
-    let l = c .before .loop in
-    let a = c .before .before .before .args in
-    filled-all (a .g) (a .out .now) (l .out) (l .s) (l .b) (l .k) (omega arith) (omega arith) (c .loop-test .left) (l .inv .1)
+    let n : tie.After-next-block2 Inv-loop μ-loop = search in
+    let f : tie.After-lay-front Inv-loop μ-loop = search in
+    let loop : tie.At-loop Inv-loop μ-loop = search in
+    let b = n .next-block2 .ensures in
+    filled-all _ _ _ _ _ _ _ _ _ (b .1 .1) (omega arith) (omega arith) (omega arith) (b .1 .0) (b .0) (f .lay-front .ensures) (loop .loop .inv .2)
 
 pub fill-spec : {M : Type 1} → statement M
 fill-spec =
@@ -66,14 +75,16 @@ fill-spec =
     Inv-loop
     μ-loop
     loop-holds
-    block-requires
-    sub-put-block
-    part-put-block-start
-    part-put-block-end
-    put-block-requires
-    counted-requires
+    sub-loop
+    sub-next-block
+    part-next-block-start
+    part-next-block-end
+    next-block-requires
     add-k
     loop-less
     loop-again
+    next-block-requires-2
+    lay-front-requires
     same-length
+    same-length-2
     returns)

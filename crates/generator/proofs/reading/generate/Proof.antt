@@ -1,9 +1,12 @@
 -- `generator::reading::generate` meets its contract: nothing is asked for; or the key is changed from one block more; or from what the
 -- last block has left. Assumes nothing.
-use mathlib.Core.Path.{sym, _∙_}
+use mathlib.Core.Path.{_≡_, sym, _∙_}
+use Prim.Native.Nat.{_+_, _-_}
 use native.Mathlib.Omega.{arith}
 use lib.ListN.{length}
-use Rattle.generator.proofs.KeyWords.{read-bytes, read-none, read-further, read-within}
+use lib.Seq.{length-take-le}
+use Rattle.generator.proofs.Laying.{whole-block}
+use Rattle.generator.proofs.KeyBytes.{read-bytes, read-none, read-further, read-within}
 use borrow.Author.Needs.{needs}
 use Rattle.generator.proofs.reading.generate.Statement.{statement}
 use Rattle.generator.proofs.reading.generate.Tie as tie
@@ -12,6 +15,9 @@ returns : tie.Need-returns
 returns c =
     let a = c .before .before .args in
     read-none (a .out .now) (a .g .now) (c .if1 .taken)
+
+slice-aggregate-fill : tie.Need-slice-aggregate-fill
+slice-aggregate-fill c = search needs
 
 fill-requires : tie.Need-fill-requires
 fill-requires c κs = search needs
@@ -22,42 +28,70 @@ used-up-requires c κs = search needs
 add-if2 : tie.Need-add-if2
 add-if2 c = search needs
 
-block-requires : tie.Need-block-requires
-block-requires c κs = search needs
+slice-aggregate-next-block : tie.Need-slice-aggregate-next-block
+slice-aggregate-next-block c = search needs
 
-counted-requires : tie.Need-counted-requires
-counted-requires c κs = search needs
+next-block-requires : tie.Need-next-block-requires
+next-block-requires c κs = search needs
 
-rekeyed-requires : tie.Need-rekeyed-requires
-rekeyed-requires c κs = search needs
+array-share-prefix-last : tie.Need-array-share-prefix-last
+array-share-prefix-last c = search needs
+
+slice-aggregate-onto-key : tie.Need-slice-aggregate-onto-key
+slice-aggregate-onto-key c =
+    let n : tie.After-next-block = search in
+    sym (length-take-le 32 (n .next-block .last .1 .0) (omega arith))
+
+onto-key-requires : tie.Need-onto-key-requires
+onto-key-requires c κs =
+    let n : tie.After-next-block = search in
+    (c .before .onto-key-arg .given .0 .1, omega (arith, length-take-le 32 (n .next-block .last .1 .0) (omega arith)))
 
 same-length : tie.Need-same-length
 same-length c = search needs
 
 returns-2 : tie.Need-returns-2
 returns-2 c =
-    let t = c .before .before .before in
-    let u = t .before in
-    let f = u .before .before .before .before in
-    let a = f .before .before .before .before .before .args in (
-      f .fill .ensures .0 ∙ sym (read-bytes (length (a .out .now)) (a .g .now)),
-      read-further (length (a .out .now)) (a .g .now) _ _ _ _ (rw (u .used-up .ensures .0) at (t .if2 .taken)) (f .fill .ensures .1 .0) (c .before .before .block .ensures) (c .before .counted .ensures) (c .rekeyed .ensures),
+    let s : tie.Start = search in
+    let f : tie.After-fill = search in
+    let u : tie.After-used-up = search in
+    let t : tie.Then2 = search in
+    let n : tie.After-next-block = search in
+    let b = n .next-block .ensures in
+    let len = length (s .args .out .now) in (
+      f .fill .ensures .0 ∙ sym (read-bytes len (s .args .g .now)),
+      read-further len (s .args .g .now) _ _ _ _ (rw (u .used-up .ensures .0) at (t .if2 .taken)) (f .fill .ensures .1 .0) (whole-block _ _ _ (b .1 .1) (omega arith) (b .0)) (b .1 .0) (c .onto-key .ensures),
     )
 
-rekeyed-requires-2 : tie.Need-rekeyed-requires-2
-rekeyed-requires-2 c κs = search needs
+add-end : tie.Need-add-end
+add-end c = search needs
+
+sub-onto-key : tie.Need-sub-onto-key
+sub-onto-key c = search needs
+
+part-onto-key-start : tie.Need-part-onto-key-start
+part-onto-key-start c = search needs
+
+part-onto-key-end : tie.Need-part-onto-key-end
+part-onto-key-end c = search needs
+
+onto-key-requires-2 : tie.Need-onto-key-requires-2
+onto-key-requires-2 c κs = search needs
 
 same-length-2 : tie.Need-same-length-2
 same-length-2 c = search needs
 
 returns-3 : tie.Need-returns-3
 returns-3 c =
-    let t = c .before .before in
-    let u = t .before in
-    let f = u .before .before .before .before in
-    let a = f .before .before .before .before .before .args in (
-      f .fill .ensures .0 ∙ sym (read-bytes (length (a .out .now)) (a .g .now)),
-      read-within (length (a .out .now)) (a .g .now) _ _ (c .rekeyed2 .result) (omega (arith, c .rekeyed2 .ok)) (omega arith) (rw (u .used-up .ensures .0) at (t .if2 .left)) (f .fill .ensures .1 .0) (f .fill .ensures .1 .1) (rw (u .used-up .ensures .0) at (c .rekeyed2 .ensures)),
+    let s : tie.Start = search in
+    let f : tie.After-fill = search in
+    let u : tie.After-used-up = search in
+    let t : tie.Else2 = search in
+    let k : tie.After-onto-key-arg2 = search in
+    let e : u .used-up .result + 32 - u .used-up .result ≡ 32 = omega arith in
+    let len = length (s .args .out .now) in (
+      f .fill .ensures .0 ∙ sym (read-bytes len (s .args .g .now)),
+      read-within len (s .args .g .now) _ _ _ (k .onto-key-arg2 .given .0 .1) (omega arith) (rw (u .used-up .ensures .0) at (t .if2 .left)) (f .fill .ensures .1 .0) (f .fill .ensures .1 .1) (rw (e, u .used-up .ensures .0) at (c .onto-key2 .ensures)),
     )
 
 pub generate-spec : {M : Type 1} → statement M
@@ -65,14 +99,21 @@ generate-spec =
     tie.close
     (tie.spec
     returns
+    slice-aggregate-fill
     fill-requires
     used-up-requires
     add-if2
-    block-requires
-    counted-requires
-    rekeyed-requires
+    slice-aggregate-next-block
+    next-block-requires
+    array-share-prefix-last
+    slice-aggregate-onto-key
+    onto-key-requires
     same-length
     returns-2
-    rekeyed-requires-2
+    add-end
+    sub-onto-key
+    part-onto-key-start
+    part-onto-key-end
+    onto-key-requires-2
     same-length-2
     returns-3)

@@ -2,8 +2,8 @@ use borrow.Author.Needs.{needs}
 use Rattle.mixer.proofs.extracting.mix_back.Statement.{statement}
 use Rattle.mixer.proofs.extracting.mix_back.Tie as tie
 
-five-bytes-requires : tie.Need-five-bytes-requires
-five-bytes-requires c κs = search needs
+hash-bytes-requires : tie.Need-hash-bytes-requires
+hash-bytes-requires c κs = search needs
 
 slice-aggregate-mix : tie.Need-slice-aggregate-mix
 slice-aggregate-mix c = search needs
@@ -17,8 +17,8 @@ same-length c = search needs
 returns : tie.Need-returns
 returns c =
     let m = c .before .before .mix .ensures in
-    (rw (c .before .before .before .before .before .five-bytes .ensures) at (m .0), m .1)
+    (rw (c .before .before .before .before .before .hash-bytes .ensures) at (m .0), m .1)
 
 pub mix-back-spec : {M : Type 1} → statement M
 mix-back-spec =
-    tie.close (tie.spec five-bytes-requires slice-aggregate-mix mix-requires same-length returns)
+    tie.close (tie.spec hash-bytes-requires slice-aggregate-mix mix-requires same-length returns)

@@ -1,4 +1,4 @@
-use Rattle.mixer.proofs.Mixes.{tapped-five}
+use Rattle.mixer.proofs.Mixes.{tapped-four}
 use borrow.Author.Needs.{needs}
 use Rattle.mixer.proofs.mixing.blend.Statement.{statement}
 use Rattle.mixer.proofs.mixing.blend.Tie as tie
@@ -30,20 +30,13 @@ add-word-at-4 c = search needs
 word-at-requires-5 : tie.Need-word-at-requires-5
 word-at-requires-5 c κs = search needs
 
-add-word-at-5 : tie.Need-add-word-at-5
-add-word-at-5 c = search needs
-
-word-at-requires-6 : tie.Need-word-at-requires-6
-word-at-requires-6 c κs = search needs
-
 returns : tie.Need-returns
 returns c =
-    let p5 = c .before .before in
-    let p4 = p5 .before .before in
+    let p4 = c .before .before in
     let p3 = p4 .before .before in
     let p2 = p3 .before .before in
     let p1 = p2 .before .before in
-    rw (p1 .word-at .ensures, p2 .word-at2 .ensures, p3 .word-at3 .ensures, p4 .word-at4 .ensures, p5 .word-at5 .ensures, c .word-at6 .ensures) (tapped-five _ _ _ _ _ _ _ _ _)
+    rw (p1 .word-at .ensures, p2 .word-at2 .ensures, p3 .word-at3 .ensures, p4 .word-at4 .ensures, c .word-at5 .ensures) (tapped-four _ _ _ _ _ _ _ _)
 
 pub blend-spec : {M : Type 1} → statement M
 blend-spec =
@@ -58,6 +51,4 @@ blend-spec =
     word-at-requires-4
     add-word-at-4
     word-at-requires-5
-    add-word-at-5
-    word-at-requires-6
     returns)

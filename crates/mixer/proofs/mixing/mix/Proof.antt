@@ -1,31 +1,30 @@
--- `mix` meets its contract: what is left to mix, mixed into the pool as it is, gives what the whole gives. Assumes
--- nothing.
-use mathlib.Core.Path.{_≡_, refl, _∙_}
+-- `mix` meets its contract: the pool as it is, is the pool that the bytes before place k have made. Assumes nothing.
+use mathlib.Core.Path.{_≡_, refl, sym, _∙_}
 use Prim.Native.Nat.{_≤_, _-_}
+use native.Mathlib.Numerals.{add-one}
 use native.Mathlib.Omega.{arith}
 use borrow.Author.Needs.{needs}
-use lib.ListN.{length, drop}
-use Rattle.pool.specs.Mixing.{mix}
-use Rattle.mixer.specs.Sizes.{shapeOf, InPool}
-use Rattle.mixer.proofs.Mixes.{more, done}
+use lib.ListN.{length, take}
+use lib.Seq.{take-suc, take-length}
+use Rattle.mixer.specs.Mixed.{spotOf, Mixed}
+use Rattle.mixer.proofs.Mixes.{mixed-none, mixed-then}
 use Rattle.mixer.proofs.mixing.mix.Statement.{statement}
 use Rattle.mixer.proofs.mixing.mix.Tie as tie
 
 abbrev Inv-loop : tie.InvT-loop
-Inv-loop ws₀ bytes t table spot₀ k₀ ws spot k =
-    (k ≤ length bytes)
-    × ((length ws ≡ length ws₀)
-    × (InPool (length ws₀) spot
-    × (mix (shapeOf (length ws₀)) (record { words = ws; spot = spot }) (drop k bytes) ≡ mix (shapeOf (length ws₀)) (record { words = ws₀; spot = spot₀ }) bytes)))
+Inv-loop ws₀ bytes t table p₀ k₀ ws p k = (k ≤ length bytes) × Mixed ws₀ (spotOf p₀) (take k bytes) ws p
 
 abbrev μ-loop : tie.MeasureT-loop
-μ-loop ws₀ bytes t table spot₀ k₀ ws spot k = length bytes - k
+μ-loop ws₀ bytes t table p₀ k₀ ws p k = length bytes - k
 
 taps-of-requires : tie.Need-taps-of-requires Inv-loop μ-loop
 taps-of-requires c κs = search needs
 
+place-of-requires : tie.Need-place-of-requires Inv-loop μ-loop
+place-of-requires c κs = search needs
+
 loop-holds : tie.Need-loop-holds Inv-loop μ-loop
-loop-holds c = (omega arith, (refl, (search needs, refl)))
+loop-holds c = (omega arith, mixed-none _ _ (c .place-of .ensures .1))
 
 slice-aggregate-put : tie.Need-slice-aggregate-put Inv-loop μ-loop
 slice-aggregate-put c = search needs
@@ -36,8 +35,8 @@ shared-slice-read-put c = search needs
 put-requires : tie.Need-put-requires Inv-loop μ-loop
 put-requires c κs =
     let l = c .before .before .before .before in
-    let i = l .loop .inv in
-    (refl, (rw (i .1 .0) (i .1 .1 .0), rw (i .1 .0) (l .before .taps-of .ensures)))
+    let i = l .loop .inv .1 in
+    (refl, (i .stands, rw (i .as-many) (l .before .before .before .taps-of .ensures)))
 
 add-k : tie.Need-add-k Inv-loop μ-loop
 add-k c = search needs
@@ -49,16 +48,25 @@ loop-again : tie.Need-loop-again Inv-loop μ-loop
 loop-again c =
     let m = c .before .before .put in
     let t = c .before .before .before .before .before .before in
-    let i = t .before .loop .inv in
-    (omega arith, (m .kept .0 ∙ i .1 .0, (rw (← i .1 .0) (m .ensures .1), more _ _ _ _ _ _ (t .loop-test .taken) (rw (← i .1 .0) (m .ensures .0)) (i .1 .1 .1))))
+    let a = t .before .before .before .before .before .before .before .args in
+    let e = take-suc (a .bytes .now) (t .before .loop .k) 0 (t .loop-test .taken) in
+    (omega arith, mixed-then _ _ _ _ _ _ _ _ _ (rw add-one (sym e)) (t .before .loop .inv .1) (m .ensures))
+
+spot-of-requires : tie.Need-spot-of-requires Inv-loop μ-loop
+spot-of-requires c κs =
+    let s = c .before .loop .inv .1 .stands .inside in
+    omega (arith, s .place, s .size .few)
 
 same-length : tie.Need-same-length Inv-loop μ-loop
-same-length c = c .before .loop .inv .1 .0
+same-length c = c .before .before .loop .inv .1 .as-many
 
 returns : tie.Need-returns Inv-loop μ-loop
 returns c =
-    let i = c .before .loop .inv in
-    (done _ _ _ _ _ (c .loop-test .left) (i .1 .1 .1), i .1 .1 .0)
+    let l = c .before .before in
+    let i = l .loop .inv .1 in
+    let a = l .before .before .before .before .before .before .args in
+    let e : l .loop .k ≡ length (a .bytes .now) = omega arith in
+    (rw (c .spot-of .ensures, ← l .before .place-of .ensures .0) (rw (e, take-length (a .bytes .now)) at (i .pool)), rw (c .spot-of .ensures, ← i .as-many) (i .stands .inside))
 
 pub mix-spec : {M : Type 1} → statement M
 mix-spec =
@@ -67,6 +75,7 @@ mix-spec =
     Inv-loop
     μ-loop
     taps-of-requires
+    place-of-requires
     loop-holds
     slice-aggregate-put
     shared-slice-read-put
@@ -74,5 +83,6 @@ mix-spec =
     add-k
     loop-less
     loop-again
+    spot-of-requires
     same-length
     returns)

@@ -49,27 +49,27 @@ stir-requires c κs = search needs
 
 spill-requires : tie.Need-spill-requires
 spill-requires c κs =
-    let t = c .before .before .before .before in
+    let t = c .before .before .before .before .before in
     let d = t .before .before in
     let k = keeper (d .before .before .before) [] [] in
-    rw (c .spill-arg .given .0 .1) ((in-pools k (interrupt _ _) _ (planned d [] []) (t .if1 .left)) .input)
+    rw (c .before .before .spill-arg .given .0 .1) ((in-pools k (interrupt _ _) _ (planned d [] []) (t .if1 .left)) .input)
 
 reseed-requires : tie.Need-reseed-requires
 reseed-requires c κs =
     let m = c .before .before in
-    (rw (c .before .reseed-arg .given .0 .1) (rw (m .before .spill-arg .given .0 .1) at (m .spill .ensures .1)), (c .reseed-arg2 .given .0 .1, (modest (m .before .before .before .before .before .before .before)) .reseed))
+    (rw (c .before .reseed-arg .given .0 .1) (rw (m .before .before .before .spill-arg .given .0 .1) at (m .spill .ensures .1)), (c .reseed-arg2 .given .0 .1, (modest (m .before .before .before .before .before .before .before .before)) .reseed))
 
 carried-out-requires : tie.Need-carried-out-requires
-carried-out-requires c κs = modest (c .before .before .before .before .before .before .before .before .before .before)
+carried-out-requires c κs = modest (c .before .before .before .before .before .before .before .before .before .before .before)
 
 returns-2 : tie.Need-returns-2
 returns-2 c clocks blocking =
-    let t = c .before .before .before .before .before .before .before .before .before in
+    let t = c .before .before .before .before .before .before .before .before .before .before in
     let d = t .before .before in
     let r = c .before .reseed .ensures in
     rw (c .carried-out .ensures)
     (interrupt-done (keeper (d .before .before .before) clocks blocking) _ _ _ _ _ _ _ _ _ _ _ (planned d clocks blocking) (shaped d (t .if1 .left))
-    (c .before .before .before .before .before .spill-arg .given .0 .1) (c .before .before .before .before .before .before .before .stir .ensures) (c .before .before .before .before .spill .ensures .0) (r .0) (r .1 .0) (r .1 .1))
+    (c .before .before .before .before .before .before .before .spill-arg .given .0 .1) (c .before .before .before .before .before .before .before .before .stir .ensures) (c .before .before .before .before .spill .ensures .0) (r .0) (r .1 .0) (r .1 .1))
 
 pub interrupt-on-spec : {M : Type 1} → statement M
 interrupt-on-spec =

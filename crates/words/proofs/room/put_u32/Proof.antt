@@ -4,10 +4,10 @@ use native.Mathlib.Omega.{arith}
 use native.Mathlib.Numerals.{add-one}
 use lib.ListN.{length, take}
 use lib.Seq.{sets, take-length}
 use Rattle.words.proofs.Rooms.{sets-suc}
 use borrow.Author.Needs.{needs}
-use Rattle.chacha.proofs.room.put_u32.Statement.{statement}
-use Rattle.chacha.proofs.room.put_u32.Tie as tie
+use Rattle.words.proofs.room.put_u32.Statement.{statement}
+use Rattle.words.proofs.room.put_u32.Tie as tie
 
 abbrev Inv-loop : tie.InvT-loop
 Inv-loop out₀ at x b i₀ out i = (i ≤ 4) × (length out ≡ length out₀) × (out ≡ sets out₀ at (take i b))

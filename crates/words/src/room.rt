@@ -3,8 +3,8 @@ ghost use mathlib.Core.Path.{_≡_};
 ghost use Prim.Native.Nat.{_+_};
 ghost use lib.ListN.{set};
 ghost use lib.Seq.{sets};
 ghost use Rattle.words.specs.Bytes.{leBytes};
-use words::bytes_of_u32;
+use crate::bytes::bytes_of_u32;
 
 // A byte laid into a room k places past `at`; where that lies past the room's end, the room stays as it is.
 fn put_byte(out: &mut [u8], at: usize, k: usize, b: u8)

@@ -2,8 +2,8 @@ use mathlib.Core.Path.{sym}
 use native.Mathlib.Omega.{arith}
 use lib.Seq.{set-out}
 use borrow.Author.Needs.{needs}
-use Rattle.chacha.proofs.room.put_byte.Statement.{statement}
-use Rattle.chacha.proofs.room.put_byte.Tie as tie
+use Rattle.words.proofs.room.put_byte.Statement.{statement}
+use Rattle.words.proofs.room.put_byte.Tie as tie
 
 sub-if2 : tie.Need-sub-if2
 sub-if2 c = search needs

@@ -1,0 +1,42 @@
+use mathlib.Core.Path.{_≡_, refl, ap, _∙_}
+use Prim.Native.Nat.{_≤_, _-_}
+use native.Mathlib.Omega.{arith}
+use native.Mathlib.Numerals.{add-one}
+use Rattle.chacha.specs.Chacha.{innerBlock, rounds}
+use borrow.Author.Needs.{needs}
+use Rattle.chacha.proofs.blocks.rounds.Statement.{statement}
+use Rattle.chacha.proofs.blocks.rounds.Tie as tie
+
+abbrev Inv-loop : tie.InvT-loop
+Inv-loop t₀ n₀ t n = (n ≤ 10) × (t ≡ rounds n t₀)
+
+abbrev μ-loop : tie.MeasureT-loop
+μ-loop t₀ n₀ t n = 10 - n
+
+loop-holds : tie.Need-loop-holds Inv-loop μ-loop
+unfolding rounds
+loop-holds c = (search needs, refl)
+
+inner-block-requires : tie.Need-inner-block-requires Inv-loop μ-loop
+inner-block-requires c κs = search needs
+
+add-n : tie.Need-add-n Inv-loop μ-loop
+add-n c = search needs
+
+loop-less : tie.Need-loop-less Inv-loop μ-loop
+loop-less c = search needs
+
+loop-again : tie.Need-loop-again Inv-loop μ-loop
+unfolding rounds
+loop-again c = (search needs, rw add-one (c .inner-block .ensures ∙ ap innerBlock (c .before .before .loop .inv .1)))
+
+returns : tie.Need-returns Inv-loop μ-loop
+returns c =
+    let l = c .before .loop in
+    let e : l .n ≡ 10 = omega arith in
+    rw (l .inv .1, e)
+
+pub rounds-spec : {M : Type 1} → statement M
+rounds-spec =
+    tie.close
+    (tie.spec Inv-loop μ-loop loop-holds inner-block-requires add-n loop-less loop-again returns)
