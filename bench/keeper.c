@@ -1,5 +1,4 @@
-/* The proved keeper and the plain one on the same data in one run: nanoseconds a call, and their ratio. The rounds go to and fro
-   between the two, and the least time of each counts, so that whatever else the machine does weighs little. After every round both
+/* The proved keeper and the plain one on the same data in one run: nanoseconds a call. The rounds go to and fro between the two, and the least time of each counts, so that whatever else the machine does weighs little. After every round both
    records, all answers and both rooms must be the same to the last byte. */
 #define _POSIX_C_SOURCE 200809L
 #include <stdint.h>
@@ -9,7 +8,9 @@
 #include <time.h>
 
 #include "../include/nk.h"
+#include "limits.h"
 #include "plain_keeper.h"
+#include "rows.h"
 
 enum { ROUNDS = 40, LENGTH = 4096, BLOCKING_LENGTH = 128, MOST_CALLS = 20000 };
 
@@ -82,17 +83,26 @@ static void blocking_reads(struct side *s, const struct keeper_calls *c, unsigne
     }
 }
 
+/* What no program could do a call of each in less than. */
+
+static double sixteen_bytes(void) { return 16 * limit_byte(); }
+static double all_timers(void) { return limit_timers(NK_DEVICES); }
+static double long_write(void) { return 4096 * limit_byte(); }
+static double long_read(void) { return 65 * limit_block(); }
+static double long_blocking_read(void) { return 120 * limit_compression(); }
+
 static const struct workload {
     const char *name;
     void (*run)(struct side *, const struct keeper_calls *, unsigned);
     unsigned calls;
     struct nk_answer each; /* what every call must answer, so that the work measured is the work meant */
-} workloads[] = {{"device event", events, 20000, {NK_DONE, 0, 0, 0}},
-                 {"interrupt without spill", interrupts, 20000, {NK_DONE, 0, 0, 0}},
-                 {"interrupt with spill", spills, 20000, {NK_DONE, 0, 0, 0}},
-                 {"4,096-byte write", writes, 100, {NK_DONE, 0, 0, 0}},
-                 {"4,096-byte generator read", reads, 200, {NK_DONE, 4096, 65, 0}},
-                 {"128-byte blocking read", blocking_reads, 60, {NK_DONE, 78, 0, 120}}};
+    double (*limit)(void);
+} workloads[] = {{"device event", events, 20000, {NK_DONE, 0, 0, 0}, sixteen_bytes},
+                 {"interrupt without spill", interrupts, 20000, {NK_DONE, 0, 0, 0}, all_timers},
+                 {"interrupt with spill", spills, 20000, {NK_DONE, 0, 0, 0}, sixteen_bytes},
+                 {"write of 4,096 bytes", writes, 100, {NK_DONE, 0, 0, 0}, long_write},
+                 {"generator read of 4,096 bytes", reads, 200, {NK_DONE, 4096, 65, 0}, long_read},
+                 {"blocking read of 128 bytes", blocking_reads, 60, {NK_DONE, 78, 0, 120}, long_blocking_read}};
 
 static void make_ready(struct nk_keeper *k) {
     memset(k, 0, sizeof *k);
@@ -135,26 +145,28 @@ int main(void) {
     static const size_t lengths[] = {64, 256, 1024, 4096};
     static const unsigned sets[] = {1, 4, 16};
     for (size_t i = 0; i < sizeof noise; i++) noise[i] = (uint8_t)(i * 167 + (i >> 3));
-    printf("%-26s %12s %12s %7s\n", "what", "proved ns", "plain ns", "ratio");
     for (size_t w = 0; w < sizeof workloads / sizeof *workloads; w++) {
         measure(&workloads[w], &workloads[w].each);
-        printf("%-26s %12.1f %12.1f %7.2f\n", workloads[w].name, sides[0].least, sides[1].least, sides[0].least / sides[1].least);
+        print_row(workloads[w].name, sides[0].least, sides[1].least, 0, workloads[w].limit());
     }
-    printf("\nhow the proved calls' cost grows\n%-26s %12s %12s\n", "what", "ns a call", "ns a byte");
+    char name[64];
     for (size_t i = 0; i < sizeof lengths / sizeof *lengths; i++) {
         length = lengths[i];
         measure(&workloads[3], NULL);
-        printf("write of %4zu bytes %20.1f %12.2f\n", length, sides[0].least, sides[0].least / (double)length);
+        snprintf(name, sizeof name, "write of %zu bytes", length);
+        print_growth(name, sides[0].least, (double)length);
     }
     for (size_t i = 0; i < sizeof lengths / sizeof *lengths; i++) {
         length = lengths[i];
         measure(&workloads[4], NULL);
-        printf("generator read of %4zu %17.1f %12.2f\n", length, sides[0].least, sides[0].least / (double)length);
+        snprintf(name, sizeof name, "generator read of %zu bytes", length);
+        print_growth(name, sides[0].least, (double)length);
     }
     for (size_t i = 0; i < sizeof sets / sizeof *sets; i++) {
         devices = sets[i];
         measure(&workloads[0], NULL);
-        printf("event, %2u devices in turn %13.1f\n", devices, sides[0].least);
+        snprintf(name, sizeof name, "event, %u devices in turn", devices);
+        print_growth(name, sides[0].least, 0);
     }
     return 0;
 }

@@ -43,31 +43,34 @@ static int in_range(const struct nk_keeper *k) {
     if (l->blocking_spot.at > 31 || l->blocking_spot.turn > 31) return 0;
     for (int i = 0; i < 4; i++)
         if (k->generator[i] != constants[i]) return 0;
-    /* no way out of the loop, so that the compiler can take several timers at a time; the sums wrap, and each range then begins at 0 */
+    /* no way out of the loop, so that the compiler can take several timers at a time; each number is below 2^32 where its timer is in range */
     uint64_t out = 0;
     for (int i = 0; i < NK_DEVICES; i++) {
-        out |= ((uint64_t)k->firsts[i] + 0x80000000u) >> 32;
-        out |= (uint64_t)k->seconds[i] + 0xffffffffu > 0x1fffffffeu;
+        uint64_t first = (uint64_t)k->firsts[i], second = (uint64_t)k->seconds[i];
+        out |= first + 0x80000000u;
+        out |= k->seconds[i] < 0 ? -second : second;
     }
-    return out == 0;
+    return out >> 32 == 0;
 }
 
 /* Pools. The shape is a constant in every use, and the inner functions are inlined, so each pool gets code of its own. */
 
 struct shape {
-    uint32_t words, taps[5];
+    uint32_t words, taps[4];
 };
-static const struct shape input_shape = {128, {104, 76, 51, 25, 1}}, blocking_shape = {32, {26, 19, 14, 7, 1}};
+static const struct shape input_shape = {128, {104, 76, 51, 25}}, blocking_shape = {32, {26, 19, 14, 7}};
 
 static inline void mix(uint32_t *words, struct nk_spot *spot, const struct shape *s, const uint8_t *bytes, size_t len) {
     static const uint32_t twist[8] = {0x00000000, 0x3b6e20c8, 0x76dc4190, 0x4db26158, 0xedb88320, 0xd6d6a3e8, 0x9b64c2b0, 0xa00ae278};
-    uint32_t mask = s->words - 1, i = spot->at, turn = spot->turn;
+    /* the last tap is 1: the word written last, which need not be loaded again */
+    uint32_t mask = s->words - 1, i = spot->at, turn = spot->turn, last = words[i];
     while (len-- > 0) {
         uint32_t w = rotl(*bytes++, turn);
         i = (i - 1) & mask;
         w ^= words[i];
-        for (int t = 0; t < 5; t++) w ^= words[(i + s->taps[t]) & mask];
-        words[i] = w >> 3 ^ twist[w & 7];
+        for (int t = 0; t < 4; t++) w ^= words[(i + s->taps[t]) & mask];
+        w ^= last;
+        words[i] = last = w >> 3 ^ twist[w & 7];
         turn = (turn + (i ? 7 : 14)) & 31;
     }
     spot->at = i;
