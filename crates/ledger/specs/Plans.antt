@@ -6,7 +6,7 @@ use lib.Dec.{ltb, leb, eqb}
 use lib.IntN.{pos}
 use Rattle.ledger.specs.Choice.{pick}
 use Rattle.ledger.specs.Numbers.{done, wouldBlock, unseeded, tooLong, noSuchDevice, creditTooHigh, repeated, outOfRange}
-use Rattle.ledger.specs.Shapes.{inputShape, blockingShape}
+use Rattle.ledger.specs.Shapes.{inputShape, blockingShape, rounds}
 use Rattle.ledger.specs.Places.{blocksOf}
 use Rattle.ledger.specs.Credits.{credited, taken, debited, reseedTakes}
 use Rattle.ledger.specs.Clocks.{nextTimer, eventBits}
@@ -127,4 +127,4 @@ abbrev pub blocksRun : Plan → ℕ
 blocksRun p = streamBlocks (p .stream)
 
 abbrev pub compressionsRun : Plan → ℕ
-compressionsRun p = inputShape .rounds * blocksOf (p .reseed) + inputShape .rounds * blocksOf (p .transfer) + blockingShape .rounds * blocksOf (p .deliver)
+compressionsRun p = rounds inputShape * blocksOf (p .reseed) + rounds inputShape * blocksOf (p .transfer) + rounds blockingShape * blocksOf (p .deliver)

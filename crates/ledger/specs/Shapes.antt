@@ -1,5 +1,5 @@
 -- What tells the input pool from the blocking pool, as data: everything about a pool is stated once over its shape.
-use Prim.Native.Nat.{ℕ}
+use Prim.Native.Nat.{ℕ, _/_}
 use mathlib.Core.List.{List, [], _∷_}
 
 pub record Shape : Type 0 where
@@ -8,11 +8,13 @@ pub record Shape : Type 0 where
   pub taps : List ℕ
   -- the size S, in eighths of a bit
   pub size : ℕ
-  -- SHA-1 compressions for each extraction block: the pool's bytes, 64 at a time
-  pub rounds : ℕ
 
 abbrev pub inputShape : Shape
-inputShape = record { words = 128; taps = 104 ∷ 76 ∷ 51 ∷ 25 ∷ 1 ∷ []; size = 32768; rounds = 8 }
+inputShape = record { words = 128; taps = 104 ∷ 76 ∷ 51 ∷ 25 ∷ 1 ∷ []; size = 32768 }
 
 abbrev pub blockingShape : Shape
-blockingShape = record { words = 32; taps = 26 ∷ 19 ∷ 14 ∷ 7 ∷ 1 ∷ []; size = 8192; rounds = 2 }
+blockingShape = record { words = 32; taps = 26 ∷ 19 ∷ 14 ∷ 7 ∷ 1 ∷ []; size = 8192 }
+
+-- SHA-1 compressions over a pool: its bytes, 64 at a time, which are 16 words
+abbrev pub rounds : Shape → ℕ
+rounds sh = sh .words / 16

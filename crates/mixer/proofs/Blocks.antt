@@ -13,7 +13,7 @@ use Rattle.words.specs.Words.{rotl}
 use Rattle.words.specs.Bytes.{leBytes, swapped, wordsBytes}
 use Rattle.sha1.specs.Sha1.{initialHash, compressed}
 use Rattle.ledger.specs.Choice.{pick}
-use Rattle.ledger.specs.Shapes.{Shape}
+use Rattle.ledger.specs.Shapes.{Shape, rounds}
 use Rattle.ledger.specs.Places.{blocksOf}
 use Rattle.pool.specs.Mixing.{Pool, mix}
 use Rattle.pool.specs.Extracting.{hashed, poolHash, folded, Extract, extractBlocks, extract}
@@ -34,7 +34,7 @@ message-all ws m k i e l inv = sym (take-all 16 m (omega arith)) ∙ (rw e at in
 
 -- ---- the hash of a pool
 -- as many compressions as the shape says
-pub hash-start : (n : ℕ) → Size n → (n - 0) / 16 ≡ (shapeOf n) .rounds
+pub hash-start : (n : ℕ) → Size n → (n - 0) / 16 ≡ rounds (shapeOf n)
 unfolding shapeOf pick
 hash-start n z = ⊎-elim (λ e. rw e) (λ e. rw e) (z .one-of)
 
@@ -45,14 +45,14 @@ in-blocks n z = ⊎-elim (λ e. rw e) (λ e. rw e) (z .one-of)
 -- one more compression
 pub hash-more : (ws h g r : List ℕ) (k : ℕ) → k < length ws → length ws % 16 ≡ 0 → k % 16 ≡ 0
     → g ≡ compressed h (map swapped (take 16 (drop k ws)))
-    → hashed ((length ws - k) / 16) h (drop k ws) ≡ r → hashed ((length ws - (k + 16)) / 16) g (drop (k + 16) ws) ≡ r
+    → (hashed ((length ws - k) / 16) h (drop k ws)) .words ≡ r → (hashed ((length ws - (k + 16)) / 16) g (drop (k + 16) ws)) .words ≡ r
 unfolding hashed
 hash-more ws h g r k lt l m e i =
     let s : (length ws - k) / 16 ≡ suc ((length ws - (k + 16)) / 16) = omega arith in
     rw (e, ← drop-drop 16 k ws) (rw s at i)
 
 -- none is left
-pub hash-done : (ws h r : List ℕ) (k : ℕ) → length ws ≤ k → hashed ((length ws - k) / 16) h (drop k ws) ≡ r → h ≡ r
+pub hash-done : (ws h r : List ℕ) (k : ℕ) → length ws ≤ k → (hashed ((length ws - k) / 16) h (drop k ws)) .words ≡ r → h ≡ r
 unfolding hashed
 hash-done ws h r k le i =
     let z : (length ws - k) / 16 ≡ 0 = omega arith in
@@ -102,14 +102,14 @@ left-start sh p out =
 
 -- one block of m bytes
 pool-more : (sh : Shape) (p : Pool) (m : ℕ) → 0 < m
-    → (extractBlocks sh (blocksOf m) p) .pool ≡ (extractBlocks sh (blocksOf (m - 10)) (mix sh p (wordsBytes (poolHash sh p)))) .pool
+    → (extractBlocks sh (blocksOf m) p) .pool ≡ (extractBlocks sh (blocksOf (m - 10)) (mix sh p (wordsBytes ((poolHash sh p) .words)))) .pool
 unfolding extractBlocks
 pool-more sh p m h =
     let e : (m + 9) / 10 ≡ suc ((m - 10 + 9) / 10) = omega arith in
     rw e
 
 bytes-more : (sh : Shape) (p : Pool) (m : ℕ) → 0 < m
-    → (extractBlocks sh (blocksOf m) p) .bytes ≡ folded (poolHash sh p) ++ (extractBlocks sh (blocksOf (m - 10)) (mix sh p (wordsBytes (poolHash sh p)))) .bytes
+    → (extractBlocks sh (blocksOf m) p) .bytes ≡ folded ((poolHash sh p) .words) ++ (extractBlocks sh (blocksOf (m - 10)) (mix sh p (wordsBytes ((poolHash sh p) .words)))) .bytes
 unfolding extractBlocks
 bytes-more sh p m h =
     let e : (m + 9) / 10 ≡ suc ((m - 10 + 9) / 10) = omega arith in
@@ -118,19 +118,19 @@ bytes-more sh p m h =
 -- its bytes, shortened to m
 bytes-front : (sh : Shape) (p : Pool) (m : ℕ) → 0 < m
     → take m ((extractBlocks sh (blocksOf m) p) .bytes)
-    ≡ take (min 10 m) (folded (poolHash sh p)) ++ take (m - 10) ((extractBlocks sh (blocksOf (m - 10)) (mix sh p (wordsBytes (poolHash sh p)))) .bytes)
+    ≡ take (min 10 m) (folded ((poolHash sh p) .words)) ++ take (m - 10) ((extractBlocks sh (blocksOf (m - 10)) (mix sh p (wordsBytes ((poolHash sh p) .words)))) .bytes)
 bytes-front sh p m h =
-    rw (bytes-more sh p m h, take-front m (folded (poolHash sh p)) _, folded-length (poolHash sh p))
+    rw (bytes-more sh p m h, take-front m (folded ((poolHash sh p) .words)) _, folded-length ((poolHash sh p) .words))
 
 -- one more block is laid into the room
 left-more : (sh : Shape) (p q : Pool) (out into b : List ℕ) (k next : ℕ) (whole : Extract) → k < length out
-    → b ≡ folded (poolHash sh p) → q ≡ mix sh p (wordsBytes (poolHash sh p))
+    → b ≡ folded ((poolHash sh p) .words) → q ≡ mix sh p (wordsBytes ((poolHash sh p) .words))
     → into ≡ sets out k (take (min 10 (length out - k)) b) → next ≡ k + min 10 (length out - k)
     → Left sh p out k whole → Left sh q into next whole
 left-more sh p q out into b k next whole h eb eq ei en i =
     let n : ℕ = min 10 (length out - k) in
     let v : List ℕ = take n b in
-    let lb : length b ≡ 10 = ap length eb ∙ folded-length (poolHash sh p) in
+    let lb : length b ≡ 10 = ap length eb ∙ folded-length ((poolHash sh p) .words) in
     let lv : length v ≡ n = length-take-le n b (omega arith) in
     let li : length into ≡ length out = ap length ei ∙ length-sets out k v in
     let m : length into - next ≡ length out - k - 10 = omega arith in
@@ -142,7 +142,7 @@ left-more sh p q out into b k next whole h eb eq ei en i =
 
 -- .. the same, as the code has it: the shape by the count of words at the start, and the hash by itself
 pub left-step : (n : ℕ) (p q : Pool) (out into b h : List ℕ) (k next : ℕ) (whole : Extract) → length (p .words) ≡ n → k < length out
-    → h ≡ hashed ((shapeOf (length (p .words))) .rounds) initialHash (p .words) → b ≡ folded h
+    → h ≡ (hashed (rounds (shapeOf (length (p .words)))) initialHash (p .words)) .words → b ≡ folded h
     → q ≡ mix (shapeOf (length (p .words))) p (wordsBytes h)
     → into ≡ sets out k (take (min 10 (length out - k)) b) → next ≡ k + min 10 (length out - k)
     → Left (shapeOf n) p out k whole → Left (shapeOf n) q into next whole

@@ -7,6 +7,7 @@ ghost use lib.Seq.{sets};
 ghost use Rattle.words.specs.Bytes.{swapped, wordsBytes};
 ghost use Rattle.sha1.specs.Sha1.{initialHash};
 ghost use Rattle.pool.specs.Mixing.{mix};
+ghost use Rattle.ledger.specs.Shapes.{rounds};
 ghost use Rattle.pool.specs.Extracting.{hashed, folded, extract};
 ghost use Rattle.mixer.specs.Sizes.{shapeOf, Size, InPool};
 use crate::mixing::mix;
@@ -35,7 +36,7 @@ fn message(ws: &[u32], k: usize) -> [u32; 16]
 // The hash of the whole pool.
 fn hash_pool(ws: &[u32]) -> [u32; 5]
     requires { ⌜ Size (length (now ws)) ⌝ }
-    ensures { λ r. ⌜ r ≡ hashed ((shapeOf (length (now (ws .entry)))) .rounds) initialHash (now (ws .entry)) ⌝ }
+    ensures { λ r. ⌜ r ≡ (hashed (rounds (shapeOf (length (now (ws .entry))))) initialHash (now (ws .entry))) .words ⌝ }
 {
     let mut h = initial_hash();
     let mut k: usize = 0;

@@ -11,7 +11,7 @@ use Rattle.words.specs.Bytes.{swapped, wordsBytes}
 use Rattle.words.proofs.Numbers.{length-wordsBytes}
 use Rattle.sha1.specs.Sha1.{initialHash, compressed}
 use Rattle.sha1.proofs.Lengths.{length-compressed, length-initial}
-use Rattle.ledger.specs.Shapes.{Shape}
+use Rattle.ledger.specs.Shapes.{Shape, rounds}
 use Rattle.ledger.specs.Places.{moved, blocksOf, movedBlocks, extractedFrom}
 use Rattle.pool.specs.Mixing.{Pool, mixedWords, mixByte, mix}
 use Rattle.pool.specs.Extracting.{hashed, poolHash, folded, Extract, extractBlocks, extract}
@@ -36,19 +36,30 @@ mix-length sh p (b ∷ bs) = mix-length sh (mixByte sh p b) bs ∙ mixed-length 
 
 -- ---- the hash of a pool
 -- compressions keep five words
-hashed-length : (n : ℕ) (h ws : List ℕ) → length h ≡ 5 → length (hashed n h ws) ≡ 5
+hashed-length : (n : ℕ) (h ws : List ℕ) → length h ≡ 5 → length ((hashed n h ws) .words) ≡ 5
 unfolding hashed
 hashed-length zero h ws e = e
 hashed-length (suc n) h ws e = hashed-length n (compressed h (map swapped (take 16 ws))) (drop 16 ws) (length-compressed h _ e)
 
+-- and are counted one by one
+hashed-runs : (n : ℕ) (h ws : List ℕ) → (hashed n h ws) .runs ≡ n
+unfolding hashed
+hashed-runs zero h ws = refl
+hashed-runs (suc n) h ws = ap suc (hashed-runs n _ _)
+
 -- a hash has five words
-pub hash-length : (sh : Shape) (p : Pool) → length (poolHash sh p) ≡ 5
+pub hash-length : (sh : Shape) (p : Pool) → length ((poolHash sh p) .words) ≡ 5
 unfolding poolHash
-hash-length sh p = hashed-length (sh .rounds) initialHash (p .words) length-initial
+hash-length sh p = hashed-length (rounds sh) initialHash (p .words) length-initial
+
+-- and took a compression for each 64 bytes of the pool
+pub hash-runs : (sh : Shape) (p : Pool) → (poolHash sh p) .runs ≡ rounds sh
+unfolding poolHash
+hash-runs sh p = hashed-runs (rounds sh) initialHash (p .words)
 
 -- they are mixed back as 20 bytes
-pub hash-bytes : (sh : Shape) (p : Pool) → length (wordsBytes (poolHash sh p)) ≡ 20
-hash-bytes sh p = length-wordsBytes (poolHash sh p) ∙ ap (λ (n : ℕ). 4 * n) (hash-length sh p)
+pub hash-bytes : (sh : Shape) (p : Pool) → length (wordsBytes ((poolHash sh p) .words)) ≡ 20
+hash-bytes sh p = length-wordsBytes ((poolHash sh p) .words) ∙ ap (λ (n : ℕ). 4 * n) (hash-length sh p)
 
 -- the first ten bytes of three words
 ten : (a b c : ℕ) → length (take 10 (wordsBytes (a ∷ b ∷ c ∷ []))) ≡ 10
@@ -65,7 +76,7 @@ blocks-spot : (sh : Shape) (n : ℕ) (p : Pool) → (extractBlocks sh n p) .pool
 unfolding extractBlocks movedBlocks
 blocks-spot sh zero p = refl
 blocks-spot sh (suc n) p =
-    let bs = wordsBytes (poolHash sh p) in
+    let bs = wordsBytes ((poolHash sh p) .words) in
     let back : (mix sh p bs) .spot ≡ moved sh 20 (p .spot) = mix-spot sh p bs ∙ ap (λ (m : ℕ). moved sh m (p .spot)) (hash-bytes sh p) in
     blocks-spot sh n (mix sh p bs) ∙ ap (movedBlocks sh n) back
 
@@ -74,7 +85,7 @@ blocks-words : (sh : Shape) (n : ℕ) (p : Pool) → length ((extractBlocks sh n
 unfolding extractBlocks
 blocks-words sh zero p = refl
 blocks-words sh (suc n) p =
-    let bs = wordsBytes (poolHash sh p) in
+    let bs = wordsBytes ((poolHash sh p) .words) in
     blocks-words sh n (mix sh p bs) ∙ mix-length sh p bs
 
 -- ten bytes for each
@@ -82,13 +93,13 @@ blocks-length : (sh : Shape) (n : ℕ) (p : Pool) → length ((extractBlocks sh 
 unfolding extractBlocks
 blocks-length sh zero p = refl
 blocks-length sh (suc n) p =
-    simp length-append (omega (arith, folded-length (poolHash sh p), blocks-length sh n (mix sh p (wordsBytes (poolHash sh p)))))
+    simp length-append (omega (arith, folded-length ((poolHash sh p) .words), blocks-length sh n (mix sh p (wordsBytes ((poolHash sh p) .words)))))
 
--- the shape's compressions for each
-blocks-runs : (sh : Shape) (n : ℕ) (p : Pool) → (extractBlocks sh n p) .runs ≡ sh .rounds * n
+-- a whole pool's compressions for each
+blocks-runs : (sh : Shape) (n : ℕ) (p : Pool) → (extractBlocks sh n p) .runs ≡ rounds sh * n
 unfolding extractBlocks
-blocks-runs sh zero p = sym (mul-zero (sh .rounds))
-blocks-runs sh (suc n) p = rw (blocks-runs sh n) (add-comm (sh .rounds) (sh .rounds * n) ∙ sym (mul-suc (sh .rounds) n))
+blocks-runs sh zero p = sym (mul-zero (rounds sh))
+blocks-runs sh (suc n) p = rw (hash-runs sh p, blocks-runs sh n) (add-comm (rounds sh) (rounds sh * n) ∙ sym (mul-suc (rounds sh) n))
 
 -- ---- an extraction of k bytes
 -- the place moves by 20 bytes for each block
@@ -103,8 +114,8 @@ extract-words-length sh k p = blocks-words sh (blocksOf k) p
 pub extract-length : (sh : Shape) (k : ℕ) (p : Pool) → length ((extract sh k p) .bytes) ≡ k
 extract-length sh k p = length-take-le k ((extractBlocks sh (blocksOf k) p) .bytes) (omega (arith, blocks-length sh (blocksOf k) p))
 
--- the shape's compressions were run for each block
-pub extract-runs : (sh : Shape) (k : ℕ) (p : Pool) → (extract sh k p) .runs ≡ sh .rounds * blocksOf k
+-- a whole pool's compressions were run for each block
+pub extract-runs : (sh : Shape) (k : ℕ) (p : Pool) → (extract sh k p) .runs ≡ rounds sh * blocksOf k
 extract-runs sh k p = blocks-runs sh (blocksOf k) p
 
 -- ---- the laws together, of any way to mix bytes in and to take bytes out: a pool of another kind is another value of this record
@@ -116,7 +127,7 @@ pub record LawsOf (sh : Shape) (mixes : Pool → List ℕ → Pool) (takes : ℕ
   pub extract-spot : (k : ℕ) (p : Pool) → (takes k p) .pool .spot ≡ extractedFrom sh k (p .spot)
   pub extract-words-length : (k : ℕ) (p : Pool) → length ((takes k p) .pool .words) ≡ length (p .words)
   pub extract-length : (k : ℕ) (p : Pool) → length ((takes k p) .bytes) ≡ k
-  pub extract-runs : (k : ℕ) (p : Pool) → (takes k p) .runs ≡ sh .rounds * blocksOf k
+  pub extract-runs : (k : ℕ) (p : Pool) → (takes k p) .runs ≡ rounds sh * blocksOf k
 
 -- those of the pools of specs/
 abbrev pub PoolLaws : Shape → Type 0

@@ -6,19 +6,26 @@ use lib.ListN.{getD, take, drop}
 use Rattle.words.specs.Words.{rotl}
 use Rattle.words.specs.Bytes.{swapped, wordsBytes}
 use Rattle.sha1.specs.Sha1.{initialHash, compressed}
-use Rattle.ledger.specs.Shapes.{Shape}
+use Rattle.ledger.specs.Shapes.{Shape, rounds}
 use Rattle.ledger.specs.Places.{blocksOf}
 use Rattle.pool.specs.Mixing.{Pool, mix}
 
+-- a hash, and the compressions that were run for it
+pub record Hash : Type 0 where
+  pub words : List ℕ
+  pub runs : ℕ
+
 -- n compressions over the pool's bytes, 64 at a time from word 0, with no padding. The words lie little endian and SHA-1 reads big
 -- endian, so a message word is a pool word with its bytes swapped.
-unfoldable pub hashed : ℕ → List ℕ → List ℕ → List ℕ
-hashed zero h ws = h
-hashed (suc n) h ws = hashed n (compressed h (map swapped (take 16 ws))) (drop 16 ws)
+unfoldable pub hashed : ℕ → List ℕ → List ℕ → Hash
+hashed zero h ws = record { words = h; runs = 0 }
+hashed (suc n) h ws =
+    let r = hashed n (compressed h (map swapped (take 16 ws))) (drop 16 ws) in
+    record { words = r .words; runs = suc (r .runs) }
 
 -- the hash of a whole pool, from SHA-1's initial hash
-unfoldable pub poolHash : Shape → Pool → List ℕ
-poolHash sh p = hashed (sh .rounds) initialHash (p .words)
+unfoldable pub poolHash : Shape → Pool → Hash
+poolHash sh p = hashed (rounds sh) initialHash (p .words)
 
 -- word 0 ^= word 3, word 1 ^= word 4, word 2 ^= word 2 rotated left 16; the first 10 bytes of words 0, 1, 2
 unfoldable pub folded : List ℕ → List ℕ
@@ -38,8 +45,8 @@ unfoldable pub extractBlocks : Shape → ℕ → Pool → Extract
 extractBlocks sh zero p = record { bytes = []; pool = p; runs = 0 }
 extractBlocks sh (suc n) p =
     let h = poolHash sh p in
-    let e = extractBlocks sh n (mix sh p (wordsBytes h)) in
-    record { bytes = folded h ++ e .bytes; pool = e .pool; runs = sh .rounds + e .runs }
+    let e = extractBlocks sh n (mix sh p (wordsBytes (h .words))) in
+    record { bytes = folded (h .words) ++ e .bytes; pool = e .pool; runs = h .runs + e .runs }
 
 -- k bytes: the last block is shortened
 abbrev pub extract : Shape → ℕ → Pool → Extract

@@ -4,6 +4,7 @@ use native.Mathlib.Omega.{arith}
 use borrow.Author.Needs.{needs}
 use lib.ListN.{length, drop}
 use Rattle.sha1.specs.Sha1.{initialHash}
+use Rattle.ledger.specs.Shapes.{rounds}
 use Rattle.pool.specs.Extracting.{hashed}
 use Rattle.mixer.specs.Sizes.{shapeOf}
 use Rattle.mixer.proofs.Blocks.{hash-start, in-blocks, hash-more, hash-done}
@@ -14,7 +15,7 @@ abbrev Inv-loop : tie.InvT-loop
 Inv-loop ws h₀ k₀ h k =
     (k ≤ length ws)
     × ((k % 16 ≡ 0)
-    × (hashed ((length ws - k) / 16) h (drop k ws) ≡ hashed ((shapeOf (length ws)) .rounds) initialHash ws))
+    × ((hashed ((length ws - k) / 16) h (drop k ws)) .words ≡ (hashed (rounds (shapeOf (length ws))) initialHash ws) .words))
 
 abbrev μ-loop : tie.MeasureT-loop
 μ-loop ws h₀ k₀ h k = length ws - k
