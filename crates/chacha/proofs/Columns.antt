@@ -1,4 +1,4 @@
--- A double round on a state that is written out: four quarters of its columns, then four of its diagonals. Assumes nothing.
+-- A double round on a state that is written out: four quarters of its columns, then four of its diagonals.
 use mathlib.Core.Path.{_≡_, refl, sym, ap, _∙_}
 use mathlib.Core.List.{List, [], _∷_}
 use Prim.Native.Nat.{ℕ, zero, suc, _+_}

@@ -1,4 +1,4 @@
--- A state of sixteen words gives a block of sixteen words, which is 64 bytes. Assumes nothing.
+-- A state of sixteen words gives a block of sixteen words, which is 64 bytes.
 use mathlib.Core.Path.{_≡_, refl, ap, _∙_}
 use mathlib.Core.List.{List}
 use Prim.Native.Nat.{ℕ, zero, suc, _*_}

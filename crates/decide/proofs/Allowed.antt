@@ -1,4 +1,4 @@
--- What the test before a plan gives the functions that make the plan. Assumes nothing.
+-- What the test before a plan gives the functions that make the plan.
 use mathlib.Core.Path.{_≡_}
 use mathlib.Core.Bool.{Bool, true, _&&_}
 use Rattle.ledger.specs.Range.{ledgerInRange, timerInRange}

@@ -1,4 +1,4 @@
--- The bytes that go into a pool, written out as the code lays them. Assumes nothing.
+-- The bytes that go into a pool, written out as the code lays them.
 use mathlib.Core.Path.{_≡_, refl, sym, ap, _∙_}
 use mathlib.Core.List.{List, [], _∷_, _++_, append-assoc, append-nil}
 use Prim.Native.Nat.{ℕ, zero, suc, _*_, _/_, _%_, _^_, _<_}

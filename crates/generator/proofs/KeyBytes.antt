@@ -1,4 +1,4 @@
--- The bytes that change the key: of the last block of a read, or of one block more. Assumes nothing.
+-- The bytes that change the key: of the last block of a read, or of one block more.
 use mathlib.Core.Path.{_≡_, refl, sym, ap, _∙_}
 use mathlib.Core.List.{List, [], _∷_, append-nil}
 use Prim.Native.Nat.{ℕ, suc, _+_, _-_, _*_, _<_, _≤_}

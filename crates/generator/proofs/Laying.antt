@@ -1,4 +1,4 @@
--- The key stream block by block, and its bytes laid over a room. Assumes nothing.
+-- The key stream block by block, and its bytes laid over a room.
 use mathlib.Core.Path.{_≡_, refl, sym, ap, _∙_}
 use mathlib.Core.List.{List, [], _∷_, _++_, append-assoc, append-nil}
 use Prim.Native.Nat.{ℕ, zero, suc, _+_, _-_, _*_, _<_, _≤_}

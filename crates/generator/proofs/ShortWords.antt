@@ -1,4 +1,4 @@
--- Bytes read as words, of which the last may be short, and words xored on one at a time. Assumes nothing.
+-- Bytes read as words, of which the last may be short, and words xored on one at a time.
 use mathlib.Core.Path.{_≡_, refl, sym, ap, _∙_}
 use mathlib.Core.List.{List, [], _∷_}
 use Prim.Native.Nat.{ℕ, suc, _+_, _-_, _*_, _<_, _≤_}

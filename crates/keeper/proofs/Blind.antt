@@ -1,5 +1,5 @@
 -- Demand 3: two fresh keepers that are given the same kinds of call with the same public fields show the same after each call, whatever
--- their start bytes, and whatever the stamps, addresses and fed bytes of the calls. Assumes nothing.
+-- their start bytes, and whatever the stamps, addresses and fed bytes of the calls.
 use mathlib.Core.Path.{_≡_, refl, sym, ap₂, _∙_}
 use mathlib.Core.List.{List, [], _∷_, map, head-eq-of-cons-eq, tail-eq-of-cons-eq}
 use Prim.Native.Nat.{ℕ, _+_, _*_}

@@ -1,5 +1,5 @@
 -- Demand 2 on blocking reads: for n of 1 or more within 4,096 on a record in range, answer 1 comes exactly if the blocking count is below
--- 64 and the input count below 512; and a read that is not refused hands out at least one byte. Assumes nothing.
+-- 64 and the input count below 512; and a read that is not refused hands out at least one byte.
 use mathlib.Core.Path.{_≡_, refl, sym, ap, ap₂, _∙_}
 use mathlib.Core.Bool.{true}
 use mathlib.Core.Logic.{_↔_}

@@ -1,5 +1,5 @@
 -- The generator under xor, count, stream and read: its length, its four fixed words, and its counter, which moves by the blocks
--- that were run, modulo 2^64. Assumes nothing.
+-- that were run, modulo 2^64.
 use mathlib.Core.Path.{_≡_, refl, sym, ap, ap₂, _∙_}
 use mathlib.Core.Bool.{Bool, true, false}
 use mathlib.Core.List.{List, [], _∷_}

@@ -1,4 +1,4 @@
--- The fast pool stays four words, and what a call brings out of it or of a device event is 16 bytes. Assumes nothing.
+-- The fast pool stays four words, and what a call brings out of it or of a device event is 16 bytes.
 use mathlib.Core.Path.{_≡_, refl, ap, _∙_}
 use mathlib.Core.List.{List}
 use Prim.Native.Nat.{ℕ, _*_}

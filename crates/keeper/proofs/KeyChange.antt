@@ -1,5 +1,5 @@
 -- After a read the counter goes on where it was, and the key is changed after every read, also where the last block came out even:
--- by 32 bytes that were not handed out. Assumes nothing.
+-- by 32 bytes that were not handed out.
 use mathlib.Core.Path.{_≡_, refl, sym, ap, _∙_}
 use mathlib.Core.Bool.{Bool, true, false}
 use mathlib.Core.List.{List, [], _∷_, append-nil}

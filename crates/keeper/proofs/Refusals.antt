@@ -1,5 +1,5 @@
 -- Demand 1: a call answered with anything but 0 leaves the whole record and the output room as they were, hands out nothing and
--- reports no work; and so does a refused making. Assumes nothing.
+-- reports no work; and so does a refused making.
 use mathlib.Core.Path.{_≡_, refl}
 use mathlib.Core.List.{List, []}
 use Prim.Native.Nat.{ℕ, _≤_}

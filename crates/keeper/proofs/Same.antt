@@ -1,5 +1,5 @@
 -- The two tellings are one: the paper's order, step by step, and the plan that the secrets obey give the same keeper, the same answer
--- and the same bytes, for every keeper and every call. Assumes nothing.
+-- and the same bytes, for every keeper and every call.
 use mathlib.Core.Path.{_≡_, refl, sym, ap, ap₂, _∙_}
 use mathlib.Core.Bool.{Bool, true, false, _&&_, not}
 use mathlib.Core.List.{List, [], _∷_, _++_, append-nil}

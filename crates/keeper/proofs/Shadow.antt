@@ -1,5 +1,5 @@
 -- What a call shows is what the public machine gives, whatever the secrets are: pools' words, fast words, generator words, stamps,
--- addresses and fed bytes. Assumes nothing.
+-- addresses and fed bytes.
 use mathlib.Core.Path.{_≡_, refl, ap, ap₂, _∙_}
 use mathlib.Core.Bool.{Bool, true, false}
 use mathlib.Core.List.{List, [], _++_}

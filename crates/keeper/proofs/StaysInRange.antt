@@ -1,4 +1,4 @@
--- A record in range stays in range, so no run from a fresh keeper is ever answered 17. Assumes nothing.
+-- A record in range stays in range, so no run from a fresh keeper is ever answered 17.
 use mathlib.Core.Path.{_≡_, refl, sym, ap, _∙_}
 use mathlib.Core.Bool.{Bool, true, false}
 use mathlib.Core.List.{List, [], _∷_}

@@ -1,5 +1,4 @@
 -- What the proofs of extracting cite: a block of the message, the hash of a pool, hashes as bytes, one block more in the room.
--- Assumes nothing.
 use mathlib.Core.Path.{_≡_, refl, sym, ap, _∙_}
 use mathlib.Core.Logic.{_⊎_, ⊎-elim}
 use mathlib.Core.List.{List, [], _∷_, _++_, map, map-append, append-assoc, append-nil}

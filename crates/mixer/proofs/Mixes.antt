@@ -1,4 +1,4 @@
--- What the proofs of mixing cite: masks, the shape of a pool by its word count, one byte, bytes after bytes. Assumes nothing.
+-- What the proofs of mixing cite: masks, the shape of a pool by its word count, one byte, bytes after bytes.
 use mathlib.Core.Path.{_≡_, refl, sym, ap, _∙_}
 use mathlib.Core.Logic.{_⊎_, inl, inr, ⊎-elim}
 use mathlib.Core.List.{List, [], _∷_, _++_}

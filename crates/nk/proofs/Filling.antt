@@ -1,4 +1,4 @@
--- A room filled by turns: their lines stand one behind another at its start, and are the batch's. Assumes nothing.
+-- A room filled by turns: their lines stand one behind another at its start, and are the batch's.
 use mathlib.Core.Path.{_≡_, refl, sym, ap, _∙_}
 use mathlib.Core.Bool.{Bool, true, false}
 use mathlib.Core.List.{List, [], _++_}

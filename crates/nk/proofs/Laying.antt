@@ -1,4 +1,4 @@
--- Bytes laid into a room, one by one. Assumes nothing.
+-- Bytes laid into a room, one by one.
 use mathlib.Core.Path.{_≡_, refl, ap, _∙_}
 use mathlib.Core.List.{List}
 use Prim.Native.Nat.{ℕ, suc, _+_, _≤_, _<_}

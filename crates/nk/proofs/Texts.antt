@@ -1,4 +1,4 @@
--- The texts that the program writes are the transcript in order, each of them once; and which one comes next. Assumes nothing.
+-- The texts that the program writes are the transcript in order, each of them once; and which one comes next.
 use mathlib.Core.Path.{_≡_, refl, sym, ap, _∙_}
 use mathlib.Core.Bool.{Bool, true, false}
 use mathlib.Core.List.{List, [], _∷_, _++_, flatten, append-assoc, append-nil}

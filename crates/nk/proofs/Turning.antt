@@ -1,5 +1,5 @@
 -- Turns one after another: the next one's line is the start of what is still to be written, and the rest is written from the new position
--- on. Assumes nothing.
+-- on.
 use mathlib.Core.Path.{_≡_, refl, sym, ap, _∙_}
 use mathlib.Core.Bool.{Bool, true, false, false≢true}
 use mathlib.Core.List.{List, _++_}

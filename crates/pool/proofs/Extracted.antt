@@ -1,5 +1,5 @@
 -- What a theorem about calls needs of a pool: how far its place moves, that its words stay as many, and how many bytes and
--- compressions an extraction gives. Assumes nothing.
+-- compressions an extraction gives.
 use mathlib.Core.Path.{_≡_, refl, sym, ap, _∙_}
 use mathlib.Core.List.{List, [], _∷_, map}
 use Prim.Native.Nat.{ℕ, zero, suc, _*_}

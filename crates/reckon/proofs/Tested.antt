@@ -1,5 +1,5 @@
 -- The range test as the code makes it: numbers that are below a power of two where a difference is in range, gathered by or in one
--- pass over the timers. Assumes nothing.
+-- pass over the timers.
 use mathlib.Core.Path.{_≡_, refl}
 use mathlib.Core.Bool.{Bool, true, false, _&&_, and-true, and-false, and-assoc}
 use mathlib.Core.List.{List, [], _∷_}

@@ -1,4 +1,4 @@
--- A record of a kind is that kind's call. Assumes nothing.
+-- A record of a kind is that kind's call.
 use mathlib.Core.Path.{_≡_, refl, sym, ap, _∙_}
 use mathlib.Core.List.{List}
 use Prim.Native.Nat.{ℕ}

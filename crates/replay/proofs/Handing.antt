@@ -1,4 +1,4 @@
--- Bytes that a call hands out, in a room that is longer than the call knows. Assumes nothing.
+-- Bytes that a call hands out, in a room that is longer than the call knows.
 use mathlib.Core.Path.{_≡_, refl, sym, ap, _∙_}
 use mathlib.Core.Bool.{Bool, true, false, not}
 use mathlib.Core.List.{List, [], _∷_, _++_, append-assoc}

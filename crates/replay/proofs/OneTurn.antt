@@ -1,4 +1,4 @@
--- What a turn leaves, by what stands at the position. Assumes nothing.
+-- What a turn leaves, by what stands at the position.
 use mathlib.Core.Path.{_≡_, refl, ap, _∙_}
 use mathlib.Core.Bool.{true, false}
 use mathlib.Core.List.{List, _++_}

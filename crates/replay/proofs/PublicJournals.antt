@@ -1,5 +1,5 @@
 -- Demand 3 for journals: two journals whose records have the same kinds and the same public fields, and which end with the same number, have
--- one transcript but for the hex. Assumes nothing.
+-- one transcript but for the hex.
 use mathlib.Core.Path.{_≡_, refl, sym, ap, _∙_}
 use mathlib.Core.Bool.{Bool, true, false, cond}
 use mathlib.Core.List.{List, [], _∷_, _++_, map, append-assoc}

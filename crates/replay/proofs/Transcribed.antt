@@ -1,5 +1,5 @@
 -- The lines that turns write, one after another, are the whole transcript; and it ends with the number that a scan of the bytes alone gives,
--- whatever the keeper is. Assumes nothing.
+-- whatever the keeper is.
 use mathlib.Core.Path.{_≡_, refl, sym, ap, _∙_}
 use mathlib.Core.List.{List, _++_, map, append-assoc, append-nil}
 use Prim.Native.Nat.{ℕ, zero, suc, _+_, _<_, _≤_}

@@ -1,4 +1,4 @@
--- A hash value of five words stays one, whatever the block. Assumes nothing.
+-- A hash value of five words stays one, whatever the block.
 use mathlib.Core.Path.{_≡_, refl, sym, _∙_}
 use mathlib.Core.List.{List}
 use Prim.Native.Nat.{ℕ, zero, suc}

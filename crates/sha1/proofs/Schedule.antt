@@ -1,4 +1,4 @@
--- The message schedule as it grows in an array, and the steps one after another. Assumes nothing.
+-- The message schedule as it grows in an array, and the steps one after another.
 use mathlib.Core.Path.{_≡_}
 use mathlib.Core.List.{List}
 use Prim.Native.Nat.{ℕ, zero, suc, _+_, _-_, _<_, _≤_}

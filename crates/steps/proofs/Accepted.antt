@@ -1,4 +1,4 @@
--- Plans that answer 0, call by call: the record is in range, and which parts of the plan do something. Assumes nothing.
+-- Plans that answer 0, call by call: the record is in range, and which parts of the plan do something.
 use mathlib.Core.Path.{_≡_, refl, sym, ap₂}
 use mathlib.Core.Bool.{Bool, true, false, _&&_, not}
 use Prim.Native.Nat.{ℕ, _+_, _*_, _≤_, _<_, min, max}

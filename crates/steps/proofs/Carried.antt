@@ -1,4 +1,4 @@
--- A plan that is carried out, shape by shape: what the record, the answer and the room are when it is over. Assumes nothing.
+-- A plan that is carried out, shape by shape: what the record, the answer and the room are when it is over.
 use mathlib.Core.Path.{_≡_, refl, sym, ap, ap₂, _∙_}
 use mathlib.Core.Bool.{Bool, true, false}
 use mathlib.Core.List.{List, [], _++_, append-nil}

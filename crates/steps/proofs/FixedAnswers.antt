@@ -1,5 +1,5 @@
 -- Demand 1 of the code: by its contract, what a call leaves is one fixed thing; where its answer is not 0, that is the record and the room as
--- they were, nothing delivered and no work. So too the making of a keeper. Assumes nothing.
+-- they were, nothing delivered and no work. So too the making of a keeper.
 use mathlib.Core.Path.{_≡_, refl, sym, ap, _∙_}
 use mathlib.Core.List.{List, []}
 use Prim.Native.Nat.{ℕ}

@@ -1,4 +1,4 @@
--- The generator's words of 48 start bytes, one by one as the code reads them. Assumes nothing.
+-- The generator's words of 48 start bytes, one by one as the code reads them.
 use mathlib.Core.Path.{_≡_, refl, sym, ap, _∙_}
 use mathlib.Core.List.{List, [], _∷_, _++_}
 use Prim.Native.Nat.{ℕ, zero, suc, _+_, _*_, _≤_}

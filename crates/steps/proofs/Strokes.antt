@@ -1,5 +1,5 @@
 -- The two strokes of each call, as the code makes them, leave what the paper tells. Each fact here takes what the called functions
--- promise and gives the call's contract. Assumes nothing.
+-- promise and gives the call's contract.
 use mathlib.Core.Path.{_≡_, refl, sym, ap, ap₂, _∙_}
 use mathlib.Core.Bool.{Bool, true, false}
 use mathlib.Core.List.{List, [], _++_, append-nil}

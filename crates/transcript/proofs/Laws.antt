@@ -1,4 +1,4 @@
--- What the proofs of the transcript's lines share. Assumes nothing.
+-- What the proofs of the transcript's lines share.
 use mathlib.Core.Path.{_≡_, refl, ap, _∙_}
 use mathlib.Core.Bool.{Bool, true, false, cond, not}
 use mathlib.Core.List.{List, [], _∷_, _++_}

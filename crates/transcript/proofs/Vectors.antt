@@ -1,5 +1,5 @@
 -- Lines that the definitions compute to, letter by letter: the example of the paper, bytes with both kinds of digits, and the largest
--- numbers. Assumes nothing.
+-- numbers.
 use Prim.Native.Nat.{ℕ}
 use mathlib.Core.Path.{_≡_, refl}
 use mathlib.Core.List.{List, [], _∷_, _++_}

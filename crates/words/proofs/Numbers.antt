@@ -1,4 +1,4 @@
--- Laws of numbers laid out as bytes: lengths, the way there and back, runs of bytes and of words. Assumes nothing.
+-- Laws of numbers laid out as bytes: lengths, the way there and back, runs of bytes and of words.
 use mathlib.Core.Path.{_≡_, refl, sym, ap, _∙_}
 use mathlib.Core.List.{List, [], _∷_, _++_, append-assoc, append-nil}
 use Prim.Native.Nat.{ℕ, zero, suc, _+_, _-_, _*_, _/_, _%_, _^_, _<_, _≤_}

@@ -1,4 +1,4 @@
--- Bytes laid over a room that is lent: a run of stores, `sets` of the kit. Assumes nothing.
+-- Bytes laid over a room that is lent: a run of stores, `sets` of the kit.
 use mathlib.Core.Path.{_≡_, refl, ap, _∙_}
 use mathlib.Core.List.{List, [], _∷_, _++_}
 use Prim.Native.Nat.{ℕ, suc, _+_, _*_, _<_, _≤_}

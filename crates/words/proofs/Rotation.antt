@@ -1,4 +1,4 @@
--- Laws of the rotation and of the sum. Assumes nothing.
+-- Laws of the rotation and of the sum.
 use mathlib.Core.Path.{_≡_, refl, sym, ap, _∙_}
 use Prim.Native.Nat.{ℕ, zero, suc, _+_, _-_, _*_, _/_, _%_, _^_, _<_, _≤_}
 use native.Mathlib.Nat.{lt-of-le-of-lt}

@@ -1,5 +1,5 @@
 -- Two lists of words joined word by word, one place at a time, as a loop over the places does it; for any operation and any
--- length. Assumes nothing.
+-- length.
 use mathlib.Core.Path.{_≡_, refl, ap}
 use mathlib.Core.List.{List, [], _∷_, zipWith}
 use Prim.Native.Nat.{ℕ, zero, suc, _<_, _≤_}

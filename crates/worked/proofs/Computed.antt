@@ -1,5 +1,5 @@
 -- The definitions compute. One whole call of each kind, worked out by the checker from the definitions alone, gives the numbers that
--- were worked out beside them from the paper and, for the generator, those that RFC 7539 publishes in section 2.3.2. Assumes nothing.
+-- were worked out beside them from the paper and, for the generator, those that RFC 7539 publishes in section 2.3.2.
 use mathlib.Core.Path.{_≡_, refl}
 use mathlib.Core.Bool.{Bool, true, false}
 use mathlib.Core.List.{List, [], _∷_, _++_, zipWith, reverse}

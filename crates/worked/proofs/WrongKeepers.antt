@@ -1,5 +1,5 @@
 -- Wrong keepers, and that none of them is the keeper that the definitions describe: for each, one call, or two, at which it must differ. These
--- are the errors that look right and the keepers that a weak promise would let pass. Assumes nothing.
+-- are the errors that look right and the keepers that a weak promise would let pass.
 use mathlib.Core.Path.{_≡_, refl, sym, ap, _∙_}
 use mathlib.Core.Bool.{Bool, true, false}
 use mathlib.Core.List.{List, [], _∷_, _++_, zipWith}

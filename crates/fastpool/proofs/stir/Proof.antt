@@ -1,4 +1,4 @@
--- `fastpool::stir` meets its contract: the four words with the halves of the numbers in them, and the round done twice. Assumes nothing.
+-- `fastpool::stir` meets its contract: the four words with the halves of the numbers in them, and the round done twice.
 use mathlib.Core.Path.{_≡_}
 use mathlib.Core.List.{List, [], _∷_}
 use Prim.Native.Nat.{ℕ, _/_, _%_, _^_}

@@ -1,5 +1,5 @@
 -- `generator::key::onto_key` meets its contract: the bytes that are left, xored on from where the loop stands, give what all give from
--- the start. Assumes nothing.
+-- the start.
 use mathlib.Core.Path.{_≡_}
 use Prim.Native.Nat.{_≤_, _+_, _-_, _*_}
 use native.Mathlib.Omega.{arith}

@@ -1,4 +1,4 @@
--- `generator::key::word_at` meets its contract: a byte that is missing counts as 0, as it does in the number. Assumes nothing.
+-- `generator::key::word_at` meets its contract: a byte that is missing counts as 0, as it does in the number.
 use mathlib.Core.Path.{_∙_}
 use Rattle.generator.proofs.ShortWords.{word-from}
 use borrow.Author.Needs.{needs}

@@ -1,5 +1,4 @@
 -- `generator::reading::fill` meets its contract: at k the room has the bytes of k / 64 blocks, and the generator has counted them.
--- Assumes nothing.
 use mathlib.Core.Path.{_≡_, refl}
 use Prim.Native.Nat.{_<_, _-_}
 use native.Mathlib.Omega.{arith}

@@ -1,5 +1,5 @@
 -- `generator::reading::generate` meets its contract: nothing is asked for; or the key is changed from one block more; or from what the
--- last block has left. Assumes nothing.
+-- last block has left.
 use mathlib.Core.Path.{_≡_, sym, _∙_}
 use Prim.Native.Nat.{_+_, _-_}
 use native.Mathlib.Omega.{arith}

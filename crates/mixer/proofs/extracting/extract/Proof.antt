@@ -1,5 +1,5 @@
 -- `pool::extracting::extract` meets its contract: what is left to extract gives, after the bytes that are in the room, what the
--- whole gives. Assumes nothing.
+-- whole gives.
 use mathlib.Core.Path.{_≡_, refl, ap, _∙_}
 use Prim.Native.Nat.{_≤_, _-_}
 use native.Mathlib.Omega.{arith}

@@ -1,4 +1,4 @@
--- `mix` meets its contract: the pool as it is, is the pool that the bytes before place k have made. Assumes nothing.
+-- `mix` meets its contract: the pool as it is, is the pool that the bytes before place k have made.
 use mathlib.Core.Path.{_≡_, refl, sym, _∙_}
 use Prim.Native.Nat.{_≤_, _-_}
 use native.Mathlib.Numerals.{add-one}
