@@ -4,7 +4,7 @@ use mathlib.Core.List.{List, [], _∷_, _++_, append-assoc, append-nil}
 use Prim.Native.Nat.{ℕ, zero, suc, _+_, _-_, _*_, _<_, _≤_}
 use native.Mathlib.Omega.{arith}
 use lib.ListN.{length, set, take, drop, length-drop, drop-of-length-le}
-use lib.Seq.{sets, length-take-le, take-all, take-take}
+use lib.Seq.{sets, take-all}
 use Rattle.words.proofs.Rooms.{sets-append, sets-cons, sets-none, sets-over, sets-whole}
 use Rattle.chacha.specs.Chacha.{chachaBlock, serialize}
 use Rattle.chacha.proofs.Lengths.{length-serialized}
@@ -41,14 +41,6 @@ sets-part k l part vs e =
     let n : length (drop k l) ≤ length l - k = omega (arith, length-drop k l) in
     let p : part ≡ sets (drop k l) 0 vs = rw (take-all (length l - k) (drop k l) n) at e in
     rw (p, drop-of-length-le (drop k l) n, append-nil (sets (drop k l) 0 vs)) (sets-back k l vs)
-
--- from k on: the same
-pub sets-cut : (l vs : List ℕ) (k n : ℕ) → length l ≡ k + n → n ≤ length vs → sets l k (take n vs) ≡ sets l k vs
-sets-cut l vs k n e h =
-    let d : length (drop k l) ≡ n = omega (arith, length-drop k l) in
-    let t : length (drop k l) ≤ length (take n vs) = omega (arith, length-take-le n vs h) in
-    let r : sets (drop k l) 0 (take n vs) ≡ sets (drop k l) 0 vs = rw (sets-over (drop k l) (take n vs) t, sets-over (drop k l) vs (omega arith), d) (take-take n n vs (omega arith)) in
-    sym (sets-back k l (take n vs)) ∙ ap (λ (x : List ℕ). take k l ++ x) r ∙ sets-back k l vs
 
 -- over a room of 64 bytes, a block's bytes: that is all the room then has
 pub whole-block : (s room b : List ℕ) → length s ≡ 16 → length room ≡ 64 → b ≡ sets room 0 (serialize (chachaBlock s)) → b ≡ serialize (chachaBlock s)
@@ -88,15 +80,15 @@ pub filled-more : (g start out s part n : List ℕ) (k : ℕ) → length s ≡ 1
 filled-more g start out s part n k ls en ep f = more g start out s n _ k ls en (sets-part k out part (serialize (chachaBlock s)) ep) f
 
 -- the last is laid, by way of a room of 64 bytes, and the room is full
-pub filled-all : (g start out s over n room last : List ℕ) (k : ℕ) → length s ≡ 16 → length room ≡ 64 → k < length start → length start ≤ k + 64
-    → n ≡ counted s → last ≡ sets room 0 (serialize (chachaBlock s)) → over ≡ sets out k last → Filled g start out s k
-    → (over ≡ take (length start) ((stream (wholeBlocks (length start)) g) .bytes))
+pub filled-all : (g start out s part n room last : List ℕ) (k : ℕ) → length s ≡ 16 → length room ≡ 64 → k < length start → length start ≤ k + 64
+    → n ≡ counted s → last ≡ sets room 0 (serialize (chachaBlock s)) → part ≡ sets (take (length out - k) (drop k out)) 0 last → Filled g start out s k
+    → (take k out ++ (part ++ drop (length out - k) (drop k out)) ≡ take (length start) ((stream (wholeBlocks (length start)) g) .bytes))
     × ((n ≡ (stream (wholeBlocks (length start)) g) .generator)
     × (last ≡ serialize (chachaBlock ((stream (wholeBlocks (length start) - 1) g) .generator))))
 unfolding more
-filled-all g start out s over n room last k ls lr lo hi en er eo f =
+filled-all g start out s part n room last k ls lr lo hi en er ep f =
     let el = whole-block s room last ls lr er in
-    let a = more g start out s n over k ls en (rw el at eo) f in
+    let a = more g start out s n _ k ls en (sets-part k out part (serialize (chachaBlock s)) (rw el at ep)) f in
     let lg : length g ≡ 16 = sym (stream-keeps-length (f .made) g) ∙ ap length (sym (f .moved)) ∙ ls in
     let w : wholeBlocks (length start) ≡ suc (f .made) = omega (arith, f .place) in
     let d : suc (f .made) - 1 ≡ f .made = omega arith in

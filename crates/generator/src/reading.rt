@@ -2,7 +2,7 @@
 ghost use mathlib.Core.Path.{_≡_};
 ghost use Prim.Native.Nat.{_-_, _≤_};
 ghost use lib.Dec.{eqb};
-ghost use lib.ListN.{length, take};
+ghost use lib.ListN.{length, set, take};
 ghost use Rattle.words.specs.Words.{add};
 ghost use lib.Seq.{sets};
 ghost use Rattle.chacha.specs.Chacha.{chachaBlock, serialize};
@@ -36,16 +36,35 @@ fn next_block(g: &mut [u32; 16], room: &mut [u8])
     g[13] = high;
 }
 
-// Bytes laid over a room from k on, as many as there is room for.
-fn lay_front(out: &mut [u8], k: usize, bytes: &[u8])
-    requires { ⌜ (k ≤ length (now out)) × (length (now out) - k ≤ length (now bytes)) ⌝ }
-    ensures { λ _. ⌜ now (out .exit) ≡ sets (now (out .entry)) k (now (bytes .entry)) ⌝ }
+// A byte laid into a room; past its end there is no place for it, and the room stays as it is.
+fn put_at(out: &mut [u8], i: usize, b: u8)
+    ensures { λ _. ⌜ now (out .exit) ≡ set (now (out .entry)) i b ⌝ }
 {
-    let n = out.len() - k;
+    if i < out.len() {
+        out[i] = b;
+    }
+}
+
+// Bytes laid over a room from its start, as many as there is room for.
+fn lay_bytes(out: &mut [u8], bytes: &[u8])
+    ensures { λ _. ⌜ now (out .exit) ≡ sets (now (out .entry)) 0 (now (bytes .entry)) ⌝ }
+{
     let mut i: usize = 0;
-    while i < n {
-        out[k + i] = bytes[i];
+    while i < bytes.len() {
+        put_at(out, i, bytes[i]);
         i += 1;
+    }
+}
+
+// A block's 64 bytes, in the same way. Where they all fit, the part's length is a literal, and the compiler drops every test.
+fn lay_whole(out: &mut [u8], block: &[u8])
+    requires { ⌜ length (now block) ≡ 64 ⌝ }
+    ensures { λ _. ⌜ now (out .exit) ≡ sets (now (out .entry)) 0 (now (block .entry)) ⌝ }
+{
+    if 64 <= out.len() {
+        lay_bytes(&mut out[..64], block);
+    } else {
+        lay_bytes(out, block);
     }
 }
 
@@ -64,7 +83,7 @@ fn fill(g: &mut [u32; 16], out: &mut [u8], last: &mut [u8])
         k += 64;
     }
     next_block(g, last);
-    lay_front(out, k, last);
+    lay_whole(&mut out[k..], last);
 }
 
 // Bytes used of the last block of a read, rounded up to 4.

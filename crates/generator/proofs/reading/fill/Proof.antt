@@ -48,10 +48,17 @@ loop-again c =
 next-block-requires-2 : tie.Need-next-block-requires-2 Inv-loop μ-loop
 next-block-requires-2 c κs = search needs
 
-lay-front-requires : tie.Need-lay-front-requires Inv-loop μ-loop
-lay-front-requires c κs =
-    let n : tie.After-next-block2 Inv-loop μ-loop = search in
-    (omega arith, omega (arith, n .next-block2 .kept .1 .0))
+sub-lay-whole : tie.Need-sub-lay-whole Inv-loop μ-loop
+sub-lay-whole c = search needs
+
+part-lay-whole-start : tie.Need-part-lay-whole-start Inv-loop μ-loop
+part-lay-whole-start c = search needs
+
+part-lay-whole-end : tie.Need-part-lay-whole-end Inv-loop μ-loop
+part-lay-whole-end c = search needs
+
+lay-whole-requires : tie.Need-lay-whole-requires Inv-loop μ-loop
+lay-whole-requires c κs = search needs
 
 same-length : tie.Need-same-length Inv-loop μ-loop
 same-length c = search needs
@@ -62,10 +69,10 @@ same-length-2 c = search needs
 returns : tie.Need-returns Inv-loop μ-loop
 returns c =
     let n : tie.After-next-block2 Inv-loop μ-loop = search in
-    let f : tie.After-lay-front Inv-loop μ-loop = search in
+    let f : tie.After-lay-whole Inv-loop μ-loop = search in
     let loop : tie.At-loop Inv-loop μ-loop = search in
     let b = n .next-block2 .ensures in
-    filled-all _ _ _ _ _ _ _ _ _ (b .1 .1) (omega arith) (omega arith) (omega arith) (b .1 .0) (b .0) (f .lay-front .ensures) (loop .loop .inv .2)
+    filled-all _ _ _ _ _ _ _ _ _ (b .1 .1) (omega arith) (omega arith) (omega arith) (b .1 .0) (b .0) (f .lay-whole .ensures) (loop .loop .inv .2)
 
 pub fill-spec : {M : Type 1} → statement M
 fill-spec =
@@ -83,7 +90,10 @@ fill-spec =
     loop-less
     loop-again
     next-block-requires-2
-    lay-front-requires
+    sub-lay-whole
+    part-lay-whole-start
+    part-lay-whole-end
+    lay-whole-requires
     same-length
     same-length-2
     returns)
