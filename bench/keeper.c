@@ -1,5 +1,6 @@
-/* The proved keeper and the plain one on the same data in one run: nanoseconds a call. The rounds go to and fro between the two, and the least time of each counts, so that whatever else the machine does weighs little. After every round both
-   records, all answers and both rooms must be the same to the last byte. */
+/* The proved keeper and the plain one on the same data in one run: nanoseconds a call. The rounds go to and fro between the two, and the
+   least time of each counts, so that whatever else the machine does weighs little. After every round both records, all answers and both
+   rooms must be the same to the last byte. */
 #define _POSIX_C_SOURCE 200809L
 #include <stdint.h>
 #include <stdio.h>
