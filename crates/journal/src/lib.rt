@@ -4,7 +4,8 @@
 //
 // Each exported function takes any bytes and any position, and its contract is one equation with a definition of specs/. Nothing is
 // made up: where a byte is missing there is no record, but a number that says so. A record's bytes are handed on as a part of the
-// journal itself. That a cut journal has the first of the whole's records, and nothing else, is proved in proofs/Laws.antt.
+// journal itself. Which records a journal keeps that is cut anywhere, and with which number it then ends, is proved in
+// proofs/CutJournals.antt.
 pub mod ending;
 mod fields;
 pub mod heading;
