@@ -65,14 +65,16 @@ array-share-prefix-room c =
     let c : tie.After-fill-room Inv-loop μ-loop = search in
     let laid = c .fill-room .ensures in
     let c : tie.At-loop Inv-loop μ-loop = search in
-    in-room _ _ _ _ (c .loop .inv) _ _ _ _ laid
+    let h = in-room _ _ _ _ (c .loop .inv) _ _ _ _ laid in
+    omega (arith, h)
 
 slice-aggregate-hand-over : tie.Need-slice-aggregate-hand-over Inv-loop μ-loop
 slice-aggregate-hand-over c =
     let c : tie.After-fill-room Inv-loop μ-loop = search in
     let laid = c .fill-room .ensures in
     let c : tie.At-loop Inv-loop μ-loop = search in
-    sym (length-take-le _ _ (in-room _ _ _ _ (c .loop .inv) _ _ _ _ laid))
+    let h = in-room _ _ _ _ (c .loop .inv) _ _ _ _ laid in
+    sym (length-take-le _ _ (omega (arith, h)))
 
 hand-over-requires : tie.Need-hand-over-requires Inv-loop μ-loop
 hand-over-requires c κs =
