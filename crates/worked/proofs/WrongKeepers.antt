@@ -15,7 +15,7 @@ use Rattle.ledger.specs.Clocks.{signed}
 use Rattle.ledger.specs.Marks.{inputCount, blockingCount, lastSpill, withCounts, seededAt}
 use Rattle.ledger.specs.Range.{ledgerInRange, restInRange, inRange}
 use Rattle.pool.specs.Mixing.{twisted, tapped, mixedWords, mix}
-use Rattle.pool.specs.Extracting.{extractBlocks}
+use Rattle.pool.specs.Extracting.{hashed, poolHash, extractBlocks}
 use Rattle.keeper.specs.FastPool.{stirred}
 use Rattle.keeper.specs.Generator.{xorAt, counted, stream, generated}
 use Rattle.keeper.specs.Record.{fresh, withLedger, withGenerator, Outcome}
@@ -111,7 +111,7 @@ pub fixed-work : (W : Machine) → ((k k′ : Keeper) (c c′ : Call) → (W k c
 fixed-work W h r = omega (arith, blocks-32, blocks-33, h seeded seeded (generatorRead 5 32) (generatorRead 5 33), ap (λ (o : Outcome). o .answer .blocks) (r seeded (generatorRead 5 32)), ap (λ (o : Outcome). o .answer .blocks) (r seeded (generatorRead 5 33)))
 
 two-runs : (told filled (blockingReadOf 10)) .answer .compressions ≡ 2
-unfolding told inRange restInRange ledgerInRange act blockingCall deliver transfer taken credited further extractBlocks pick
+unfolding told inRange restInRange ledgerInRange act blockingCall deliver transfer taken credited further extractBlocks poolHash hashed pick
 two-runs = refl
 
 no-runs : (told blank (written [])) .answer .compressions ≡ 0
