@@ -39,8 +39,8 @@
  * SECRETS. The words of the pools, of the fast pool and of the generator are secret, but for the generator's four constants: do not
  * print, store or send a record. What a call answers depends on the other fields and on the call's numbers and lengths, and never on a
  * secret word, a stamp, an address or a byte that is fed. About time nothing is promised. A call does not clean up behind itself: after
- * a read of 32 bytes all of them are on the stack below the caller, and so is the key that they came from; registers may hold secrets
- * too. Where that matters, clear NK_STACK_MOST bytes of stack (examples/terminal/forget.c).
+ * a read of 32 bytes all of them are on the stack below the caller, and so are those that the key was changed by; registers may hold
+ * secrets too. Where that matters, clear NK_STACK_MOST bytes of stack (examples/terminal/forget.c).
  *
  * THREADS. One caller at a time for each record. An interrupt handler must not call the keeper while a call on the same record is
  * under way, not even a call that will be refused: let it leave its numbers for the main loop, or shut interrupts out around each call.
@@ -111,7 +111,7 @@ enum {
     NK_DEVICES = 16,
     NK_START_LENGTH = 48,
     NK_LENGTH_MOST = 4096, /* of a write, a seed or a read */
-    NK_STACK_MOST = 1536   /* bytes of stack that a call may use */
+    NK_STACK_MOST = 1024   /* bytes of stack that a call may use */
 };
 
 /* Where a pool's next byte goes: its position and its rotation. */
