@@ -19,6 +19,15 @@ use mixer::extract;
 use mixer::mix;
 use mixer::mix_words;
 
+// A call's bytes go into a pool.
+pub fn feed(ws: &mut [u32], s: Spot, bytes: &[u8]) -> Spot
+    requires { ⌜ InPool (length (now ws)) s ⌝ }
+    ensures { λ r. ⌜ (record { words = now (ws .exit); spot = r }) ≡ mix (shapeOf (length (now (ws .entry)))) (record { words = now (ws .entry); spot = s }) (now (bytes .entry)) ⌝ }
+    ensures { λ r. ⌜ InPool (length (now (ws .entry))) r ⌝ }
+{
+    mix(ws, s, &bytes[..])
+}
+
 // An event's stamp, clock and value go into a pool.
 pub fn feed_event(ws: &mut [u32], s: Spot, stamp: u64, at: u32, value: u32) -> Spot
     requires { ⌜ InPool (length (now ws)) s ⌝ }

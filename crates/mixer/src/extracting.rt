@@ -10,7 +10,8 @@ ghost use Rattle.pool.specs.Mixing.{mix};
 ghost use Rattle.ledger.specs.Shapes.{rounds};
 ghost use Rattle.pool.specs.Extracting.{hashed, folded, extract};
 ghost use Rattle.mixer.specs.Sizes.{shapeOf, Size, InPool};
-use crate::mixing::mix;
+use crate::mixing::TWISTS;
+use crate::mixing::mix_by;
 use ledger::Spot;
 use sha1::compress;
 use sha1::initial_hash;
@@ -71,15 +72,16 @@ fn hash_bytes(h: [u32; 5]) -> [u8; 20]
     b
 }
 
-// A hash mixed back into its pool. It goes in as bytes and not as words: under an extraction the stack is deepest, and `mix` needs less of it
-// than `mix_words`.
+// A hash mixed back into its pool. It goes in as bytes and not as words, and by `mix_by`: under an extraction the stack is deepest, and this
+// becomes part of it, where `mix` and `mix_words` would be called.
 fn mix_back(ws: &mut [u32], s: Spot, h: [u32; 5]) -> Spot
     requires { ⌜ InPool (length (now ws)) s ⌝ }
     ensures { λ r. ⌜ (record { words = now (ws .exit); spot = r }) ≡ mix (shapeOf (length (now (ws .entry)))) (record { words = now (ws .entry); spot = s }) (wordsBytes h) ⌝ }
     ensures { λ r. ⌜ InPool (length (now (ws .entry))) r ⌝ }
 {
     let b = hash_bytes(h);
-    mix(ws, s, &b)
+    let table = TWISTS;
+    mix_by(ws, s, &table, &b)
 }
 
 // Ten, or as many as are left.

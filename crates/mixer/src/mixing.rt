@@ -27,7 +27,7 @@ struct Place {
     last: u32,
 }
 
-const TWISTS: [u32; 8] = [
+pub const TWISTS: [u32; 8] = [
     0x0000_0000,
     0x3b6e_20c8,
     0x76dc_4190,
@@ -190,19 +190,30 @@ pub fn mix_words(ws: &mut [u32], s: Spot, words: &[u32]) -> Spot
     spot_of(p)
 }
 
-// Bytes mixed into a pool of 128 or 32 words, the first first.
-pub fn mix(ws: &mut [u32], s: Spot, bytes: &[u8]) -> Spot
+// Bytes mixed into a pool of 128 or 32 words, the first first, by a table that the caller has. Without the table it is small enough for the
+// compiler to make it part of its caller.
+pub fn mix_by(ws: &mut [u32], s: Spot, table: &[u32], bytes: &[u8]) -> Spot
+    requires { ⌜ now table ≡ twistTable ⌝ }
     requires { ⌜ InPool (length (now ws)) s ⌝ }
     ensures { λ r. ⌜ (record { words = now (ws .exit); spot = r }) ≡ mix (shapeOf (length (now (ws .entry)))) (record { words = now (ws .entry); spot = s }) (now (bytes .entry)) ⌝ }
     ensures { λ r. ⌜ InPool (length (now (ws .entry))) r ⌝ }
 {
     let t = taps_of(ws.len());
-    let table = TWISTS;
     let mut p = place_of(ws, s);
     let mut k = 0;
     while k < bytes.len() {
-        p = put(ws, t, &table, p, bytes[k]);
+        p = put(ws, t, table, p, bytes[k]);
         k += 1;
     }
     spot_of(p)
+}
+
+// .. and by a table of its own. The bytes are lent anew: handed on as they are, they would go by way of the stack.
+pub fn mix(ws: &mut [u32], s: Spot, bytes: &[u8]) -> Spot
+    requires { ⌜ InPool (length (now ws)) s ⌝ }
+    ensures { λ r. ⌜ (record { words = now (ws .exit); spot = r }) ≡ mix (shapeOf (length (now (ws .entry)))) (record { words = now (ws .entry); spot = s }) (now (bytes .entry)) ⌝ }
+    ensures { λ r. ⌜ InPool (length (now (ws .entry))) r ⌝ }
+{
+    let table = TWISTS;
+    mix_by(ws, s, &table, &bytes[..])
 }

@@ -16,11 +16,11 @@ use decide::decide_seed;
 use decide::decide_write;
 use decide::numbers::DONE;
 use fastpool::stir;
+use flows::feed;
 use flows::feed_event;
 use flows::reseed;
 use flows::spill;
 use ledger::Ledger;
-use mixer::mix;
 
 // A device event.
 pub fn event_on(
@@ -91,7 +91,7 @@ pub fn write_on(
     if p.number != DONE {
         return refused(l, p.number);
     }
-    let s = mix(&mut input[..], l.input_spot, bytes);
+    let s = feed(&mut input[..], l.input_spot, bytes);
     carried_out(p, s, l.blocking_spot)
 }
 
@@ -113,7 +113,7 @@ pub fn seed_on(
     if p.number != DONE {
         return refused(l, p.number);
     }
-    let fed = mix(&mut input[..], l.input_spot, bytes);
+    let fed = feed(&mut input[..], l.input_spot, bytes);
     let s = reseed(&mut input[..], fed, &mut generator[..], p.reseed);
     carried_out(p, s, l.blocking_spot)
 }

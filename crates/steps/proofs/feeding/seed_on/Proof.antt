@@ -44,16 +44,16 @@ returns c clocks blocking fast =
     let d = c .before .before .before in
     rw (c .refused .ensures) (refusal (keeper (d .before .before .before .before) clocks blocking fast) (seededWith _ _ _) [] _ (planned d clocks blocking fast) (c .before .if1 .taken))
 
-mix-requires : tie.Need-mix-requires
-mix-requires c κs =
+feed-requires : tie.Need-feed-requires
+feed-requires c κs =
     let d = c .before .before .before in
     let k = keeper (d .before .before .before .before) [] [] [] in
-    rw (c .mix-arg .given .0 .1) ((in-pools k (seed _ _ _) _ (planned d [] [] []) (c .before .if1 .left)) .input)
+    rw (c .feed-arg .given .0 .1) ((in-pools k (seed _ _ _) _ (planned d [] [] []) (c .before .if1 .left)) .input)
 
 reseed-requires : tie.Need-reseed-requires
 reseed-requires c κs =
     let m = c .before .before in
-    (rw (c .before .reseed-arg .given .0 .1) (rw (m .before .mix-arg .given .0 .1) at (m .mix .ensures .1)), (c .reseed-arg2 .given .0 .1, (modest (m .before .before .before .before)) .reseed))
+    (rw (c .before .reseed-arg .given .0 .1) (rw (m .before .feed-arg .given .0 .1) at (m .feed .ensures .1)), (c .reseed-arg2 .given .0 .1, (modest (m .before .before .before .before)) .reseed))
 
 carried-out-requires : tie.Need-carried-out-requires
 carried-out-requires c κs = modest (c .before .before .before .before .before .before .before)
@@ -65,7 +65,7 @@ returns-2 c clocks blocking fast =
     let r = c .before .reseed .ensures in
     rw (c .carried-out .ensures)
     (seed-done (keeper (d .before .before .before .before) clocks blocking fast) _ _ _ _ _ _ _ _ _ (planned d clocks blocking fast) (shaped d (t .if1 .left))
-    (c .before .before .before .before .before .mix-arg .given .0 .1) (c .before .before .before .before .mix .ensures .0) (r .0) (r .1 .0) (r .1 .1))
+    (c .before .before .before .before .before .feed-arg .given .0 .1) (c .before .before .before .before .feed .ensures .0) (r .0) (r .1 .0) (r .1 .1))
 
 pub seed-on-spec : {M : Type 1} → statement M
 seed-on-spec =
@@ -75,7 +75,7 @@ seed-on-spec =
     decide-seed-requires
     refused-requires
     returns
-    mix-requires
+    feed-requires
     reseed-requires
     carried-out-requires
     returns-2)

@@ -49,11 +49,11 @@ returns c clocks blocking fast =
     let d = c .before .before .before in
     rw (c .refused .ensures) (refusal (keeper (d .before .before .before) clocks blocking fast) (written _) [] _ (planned d clocks blocking fast) (c .before .if1 .taken))
 
-mix-requires : tie.Need-mix-requires
-mix-requires c κs =
+feed-requires : tie.Need-feed-requires
+feed-requires c κs =
     let d = c .before .before .before in
     let k = keeper (d .before .before .before) [] [] [] in
-    rw (c .mix-arg .given .0 .1) ((in-pools k (write _) _ (planned d [] [] []) (c .before .if1 .left)) .input)
+    rw (c .feed-arg .given .0 .1) ((in-pools k (write _) _ (planned d [] [] []) (c .before .if1 .left)) .input)
 
 carried-out-requires : tie.Need-carried-out-requires
 carried-out-requires c κs = modest (c .before .before .before .before)
@@ -64,7 +64,7 @@ returns-2 c clocks blocking fast =
     let d = t .before .before in
     let k = keeper (d .before .before .before) clocks blocking fast in
     rw (c .carried-out .ensures)
-    (write-done k _ _ _ _ (planned d clocks blocking fast) (shaped d (t .if1 .left)) (c .before .before .mix-arg .given .0 .1) (c .before .mix .ensures .0))
+    (write-done k _ _ _ _ (planned d clocks blocking fast) (shaped d (t .if1 .left)) (c .before .before .feed-arg .given .0 .1) (c .before .feed .ensures .0))
 
 pub write-on-spec : {M : Type 1} → statement M
 write-on-spec =
@@ -74,6 +74,6 @@ write-on-spec =
     decide-write-requires
     refused-requires
     returns
-    mix-requires
+    feed-requires
     carried-out-requires
     returns-2)
