@@ -1,5 +1,5 @@
 -- `mix_by` meets its contract: the pool as it is, is the pool that the bytes before place k have made.
-use mathlib.Core.Path.{_≡_, refl, sym, _∙_}
+use mathlib.Core.Path.{_≡_, sym}
 use Prim.Native.Nat.{_≤_, _-_}
 use native.Mathlib.Numerals.{add-one}
 use native.Mathlib.Omega.{arith}
