@@ -77,8 +77,9 @@ fn timers_in_range(firsts: &[i64], seconds: &[i64]) -> bool
     met < 0x1_0000_0000
 }
 
-// The rest of the record: the sixteen timers, and generator words 0 to 3.
-pub fn rest_in_range(firsts: &[i64; 16], seconds: &[i64; 16], fixed: [u32; 4]) -> bool
+// The rest of the record: the timers, and generator words 0 to 3.
+pub fn rest_in_range(firsts: &[i64], seconds: &[i64], fixed: [u32; 4]) -> bool
+    requires { ⌜ length (now firsts) ≡ length (now seconds) ⌝ }
     ensures { λ r. ⌜ r ≡ restInRange (now (firsts .entry)) (now (seconds .entry)) fixed ⌝ }
 {
     timers_in_range(firsts, seconds) & same_words(fixed)

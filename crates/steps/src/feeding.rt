@@ -37,7 +37,7 @@ pub fn event_on(
 ) -> Done
     ensures { λ r. ⌜ ((blocking fast : List ℕ) → left (keeperOf (r .ledger) (now (clocks .exit)) (now (firsts .exit)) (now (seconds .exit)) (now (input .exit)) blocking fast (now (generator .exit))) (r .answer) [] ≡ leaves (keeperOf l (now (clocks .entry)) (now (firsts .entry)) (now (seconds .entry)) (now (input .entry)) blocking fast (now (generator .entry))) (deviceEvent device at stamp value) []) ⌝ }
 {
-    let others = others_in_range(firsts, seconds, generator);
+    let others = others_in_range(&firsts[..], &seconds[..], generator);
     let t = timer_of(clocks, firsts, seconds, device);
     let p = decide_event(others, l, t, device, at, value);
     if p.number != DONE {
@@ -64,7 +64,7 @@ pub fn interrupt_on(
 ) -> Done
     ensures { λ r. ⌜ ((clocks blocking : List ℕ) → left (keeperOf (r .ledger) clocks (now (firsts .entry)) (now (seconds .entry)) (now (input .exit)) blocking (now (fast .exit)) (now (generator .exit))) (r .answer) [] ≡ leaves (keeperOf l clocks (now (firsts .entry)) (now (seconds .entry)) (now (input .entry)) blocking (now (fast .entry)) (now (generator .entry))) (interrupted at number stamp address) []) ⌝ }
 {
-    let others = others_in_range(firsts, seconds, generator);
+    let others = others_in_range(&firsts[..], &seconds[..], generator);
     let p = decide_interrupt(others, l, at, number);
     if p.number != DONE {
         return refused(l, p.number);
@@ -86,7 +86,7 @@ pub fn write_on(
 ) -> Done
     ensures { λ r. ⌜ ((clocks blocking fast : List ℕ) → left (keeperOf (r .ledger) clocks (now (firsts .entry)) (now (seconds .entry)) (now (input .exit)) blocking fast (now (generator .entry))) (r .answer) [] ≡ leaves (keeperOf l clocks (now (firsts .entry)) (now (seconds .entry)) (now (input .entry)) blocking fast (now (generator .entry))) (written (now (bytes .entry))) []) ⌝ }
 {
-    let others = others_in_range(firsts, seconds, generator);
+    let others = others_in_range(&firsts[..], &seconds[..], generator);
     let p = decide_write(others, l, bytes.len());
     if p.number != DONE {
         return refused(l, p.number);
@@ -108,7 +108,7 @@ pub fn seed_on(
 ) -> Done
     ensures { λ r. ⌜ ((clocks blocking fast : List ℕ) → left (keeperOf (r .ledger) clocks (now (firsts .entry)) (now (seconds .entry)) (now (input .exit)) blocking fast (now (generator .exit))) (r .answer) [] ≡ leaves (keeperOf l clocks (now (firsts .entry)) (now (seconds .entry)) (now (input .entry)) blocking fast (now (generator .entry))) (seededWith at (now (bytes .entry)) credit) []) ⌝ }
 {
-    let others = others_in_range(firsts, seconds, generator);
+    let others = others_in_range(&firsts[..], &seconds[..], generator);
     let p = decide_seed(others, l, at, bytes.len(), credit);
     if p.number != DONE {
         return refused(l, p.number);

@@ -30,7 +30,7 @@ pub fn read_on(
 ) -> Done
     ensures { λ r. ⌜ ((clocks blocking fast : List ℕ) → left (keeperOf (r .ledger) clocks (now (firsts .entry)) (now (seconds .entry)) (now (input .exit)) blocking fast (now (generator .exit))) (r .answer) (now (out .exit)) ≡ leaves (keeperOf l clocks (now (firsts .entry)) (now (seconds .entry)) (now (input .entry)) blocking fast (now (generator .entry))) (generatorRead at (length (now (out .entry)))) (now (out .entry))) ⌝ }
 {
-    let others = others_in_range(firsts, seconds, generator);
+    let others = others_in_range(&firsts[..], &seconds[..], generator);
     let p = decide_read(others, l, at, out.len());
     if p.number != DONE {
         return refused(l, p.number);
@@ -52,7 +52,7 @@ pub fn blocking_read_on(
 ) -> Done
     ensures { λ r. ⌜ ((clocks fast : List ℕ) → left (keeperOf (r .ledger) clocks (now (firsts .entry)) (now (seconds .entry)) (now (input .exit)) (now (blocking .exit)) fast (now (generator .entry))) (r .answer) (now (out .exit)) ≡ leaves (keeperOf l clocks (now (firsts .entry)) (now (seconds .entry)) (now (input .entry)) (now (blocking .entry)) fast (now (generator .entry))) (blockingReadOf (length (now (out .entry)))) (now (out .entry))) ⌝ }
 {
-    let others = others_in_range(firsts, seconds, generator);
+    let others = others_in_range(&firsts[..], &seconds[..], generator);
     let p = decide_blocking_read(others, l, out.len());
     if p.number != DONE {
         return refused(l, p.number);

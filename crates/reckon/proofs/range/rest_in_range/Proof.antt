@@ -13,7 +13,8 @@ same-words-requires c κs = search needs
 returns : tie.Need-returns
 unfolding restInRange
 returns c =
-    let a = c .before .before .before .before .args in
+    let s : tie.Start = search in
+    let a = s .args in
     rw (c .before .timers-in-range .ensures, c .same-words .ensures)
     (and-assoc (every firstInRange (a .firsts .now)) (every secondInRange (a .seconds .now)) _)
 

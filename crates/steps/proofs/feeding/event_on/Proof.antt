@@ -19,15 +19,15 @@ abbrev keeper : tie.Start → List ℕ → List ℕ → Keeper
 keeper s blocking fast = keeperOf (s .args .l) (s .args .clocks .now) (s .args .firsts .now) (s .args .seconds .now) (s .args .input .now) blocking fast (s .args .generator .now)
 
 -- the plan is the one at that record
-planned : (c : tie.After-decide-event) (blocking fast : List ℕ) → c .decide-event .result ≡ planAt (view (keeper (c .before .before .before .before .before .before .before .before .before) blocking fast)) (event (c .before .before .before .before .before .before .before .before .before .args .device) (c .before .before .before .before .before .before .before .before .before .args .at) (c .before .before .before .before .before .before .before .before .before .args .value))
-planned c blocking fast = event-decided (keeper (c .before .before .before .before .before .before .before .before .before) blocking fast) _ _ _ _ _ _ (c .before .before .before .before .before .others-in-range .ensures) (c .before .timer-of .ensures) (c .decide-event .ensures)
+planned : (c : tie.After-decide-event) (blocking fast : List ℕ) → c .decide-event .result ≡ planAt (view (keeper (c .before .before .before .before .before .before .before .before .before .before .before) blocking fast)) (event (c .before .before .before .before .before .before .before .before .before .before .before .args .device) (c .before .before .before .before .before .before .before .before .before .before .before .args .at) (c .before .before .before .before .before .before .before .before .before .before .before .args .value))
+planned c blocking fast = event-decided (keeper (c .before .before .before .before .before .before .before .before .before .before .before) blocking fast) _ _ _ _ _ _ (c .before .before .before .before .before .others-in-range .ensures) (c .before .timer-of .ensures) (c .decide-event .ensures)
 
 -- it is small
 modest : (c : tie.After-decide-event) → Small (c .decide-event .result)
 modest c = rw (c .decide-event .ensures) (small _ _ _ _)
 
 -- and where it answers 0, it has the call's shape
-shaped : (c : tie.After-decide-event) → c .decide-event .result .number ≡ 0 → EventPlan ((c .before .before .before .before .before .before .before .before .before) .args .device) (c .decide-event .result)
+shaped : (c : tie.After-decide-event) → c .decide-event .result .number ≡ 0 → EventPlan ((c .before .before .before .before .before .before .before .before .before .before .before) .args .device) (c .decide-event .result)
 shaped c = rw (c .decide-event .ensures) (event-plan _ _ _ _ _ _)
 
 others-in-range-requires : tie.Need-others-in-range-requires
@@ -45,7 +45,7 @@ refused-requires c κs = search needs
 returns : tie.Need-returns
 returns c blocking fast =
     let d = c .before .before .before in
-    rw (c .refused .ensures) (refusal (keeper (d .before .before .before .before .before .before .before .before .before) blocking fast) (deviceEvent _ _ _ _) [] _ (planned d blocking fast) (c .before .if1 .taken))
+    rw (c .refused .ensures) (refusal (keeper (d .before .before .before .before .before .before .before .before .before .before .before) blocking fast) (deviceEvent _ _ _ _) [] _ (planned d blocking fast) (c .before .if1 .taken))
 
 keep-timer-requires : tie.Need-keep-timer-requires
 keep-timer-requires c κs =
@@ -56,7 +56,7 @@ feed-event-requires : tie.Need-feed-event-requires
 feed-event-requires c κs =
     let t = c .before .before .before .before .before in
     let d = t .before .before in
-    let k = keeper (d .before .before .before .before .before .before .before .before .before) [] [] in
+    let k = keeper (d .before .before .before .before .before .before .before .before .before .before .before) [] [] in
     rw (c .feed-event-arg .given .0 .1) ((in-pools k (event _ _ _) _ (planned d [] []) (t .if1 .left)) .input)
 
 reseed-requires : tie.Need-reseed-requires
@@ -74,7 +74,7 @@ returns-2 c blocking fast =
     let r = c .before .reseed .ensures in
     let kept = c .before .before .before .before .before .before .keep-timer .ensures in
     rw (c .carried-out .ensures)
-    (event-done (keeper (d .before .before .before .before .before .before .before .before .before) blocking fast) _ _ _ _ _ _ _ _ _ _ _ _ _ (planned d blocking fast) (shaped d (t .if1 .left))
+    (event-done (keeper (d .before .before .before .before .before .before .before .before .before .before .before) blocking fast) _ _ _ _ _ _ _ _ _ _ _ _ _ (planned d blocking fast) (shaped d (t .if1 .left))
     (c .before .before .before .before .before .feed-event-arg .given .0 .1) (kept .0) (kept .1 .0) (kept .1 .1) (c .before .before .before .before .feed-event .ensures .0) (r .0) (r .1 .0) (r .1 .1))
 
 pub event-on-spec : {M : Type 1} → statement M

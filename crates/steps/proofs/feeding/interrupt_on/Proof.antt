@@ -19,8 +19,8 @@ abbrev keeper : tie.Start → List ℕ → List ℕ → Keeper
 keeper s clocks blocking = keeperOf (s .args .l) clocks (s .args .firsts .now) (s .args .seconds .now) (s .args .input .now) blocking (s .args .fast .now) (s .args .generator .now)
 
 -- the plan is the one at that record
-planned : (c : tie.After-decide-interrupt) (clocks blocking : List ℕ) → c .decide-interrupt .result ≡ planAt (view (keeper (c .before .before .before) clocks blocking)) (interrupt (c .before .before .before .args .at) (c .before .before .before .args .number))
-planned c clocks blocking = decided (keeper (c .before .before .before) clocks blocking) (interrupt _ _) _ _ (interrupt-untimed _ _) (c .before .others-in-range .ensures) (c .decide-interrupt .ensures)
+planned : (c : tie.After-decide-interrupt) (clocks blocking : List ℕ) → c .decide-interrupt .result ≡ planAt (view (keeper (c .before .before .before .before .before) clocks blocking)) (interrupt (c .before .before .before .before .before .args .at) (c .before .before .before .before .before .args .number))
+planned c clocks blocking = decided (keeper (c .before .before .before .before .before) clocks blocking) (interrupt _ _) _ _ (interrupt-untimed _ _) (c .before .others-in-range .ensures) (c .decide-interrupt .ensures)
 
 -- it is small
 modest : (c : tie.After-decide-interrupt) → Small (c .decide-interrupt .result)
@@ -42,7 +42,7 @@ refused-requires c κs = search needs
 returns : tie.Need-returns
 returns c clocks blocking =
     let d = c .before .before .before in
-    rw (c .refused .ensures) (refusal (keeper (d .before .before .before) clocks blocking) (interrupted _ _ _ _) [] _ (planned d clocks blocking) (c .before .if1 .taken))
+    rw (c .refused .ensures) (refusal (keeper (d .before .before .before .before .before) clocks blocking) (interrupted _ _ _ _) [] _ (planned d clocks blocking) (c .before .if1 .taken))
 
 stir-requires : tie.Need-stir-requires
 stir-requires c κs = search needs
@@ -51,7 +51,7 @@ spill-requires : tie.Need-spill-requires
 spill-requires c κs =
     let t = c .before .before .before .before .before in
     let d = t .before .before in
-    let k = keeper (d .before .before .before) [] [] in
+    let k = keeper (d .before .before .before .before .before) [] [] in
     rw (c .before .before .spill-arg .given .0 .1) ((in-pools k (interrupt _ _) _ (planned d [] []) (t .if1 .left)) .input)
 
 reseed-requires : tie.Need-reseed-requires
@@ -68,7 +68,7 @@ returns-2 c clocks blocking =
     let d = t .before .before in
     let r = c .before .reseed .ensures in
     rw (c .carried-out .ensures)
-    (interrupt-done (keeper (d .before .before .before) clocks blocking) _ _ _ _ _ _ _ _ _ _ _ (planned d clocks blocking) (shaped d (t .if1 .left))
+    (interrupt-done (keeper (d .before .before .before .before .before) clocks blocking) _ _ _ _ _ _ _ _ _ _ _ (planned d clocks blocking) (shaped d (t .if1 .left))
     (c .before .before .before .before .before .before .before .spill-arg .given .0 .1) (c .before .before .before .before .before .before .before .before .stir .ensures) (c .before .before .before .before .spill .ensures .0) (r .0) (r .1 .0) (r .1 .1))
 
 pub interrupt-on-spec : {M : Type 1} → statement M

@@ -19,8 +19,8 @@ abbrev keeper : tie.Start → List ℕ → List ℕ → List ℕ → Keeper
 keeper s clocks blocking fast = keeperOf (s .args .l) clocks (s .args .firsts .now) (s .args .seconds .now) (s .args .input .now) blocking fast (s .args .generator .now)
 
 -- the plan is the one at that record
-planned : (c : tie.After-decide-seed) (clocks blocking fast : List ℕ) → c .decide-seed .result ≡ planAt (view (keeper (c .before .before .before .before) clocks blocking fast)) (seed (c .before .before .before .before .args .at) (length (c .before .before .before .before .args .bytes .now)) (c .before .before .before .before .args .credit))
-planned c clocks blocking fast = decided (keeper (c .before .before .before .before) clocks blocking fast) (seed _ _ _) _ _ (seed-untimed _ _ _) (c .before .others-in-range .ensures) (c .decide-seed .ensures)
+planned : (c : tie.After-decide-seed) (clocks blocking fast : List ℕ) → c .decide-seed .result ≡ planAt (view (keeper (c .before .before .before .before .before .before) clocks blocking fast)) (seed (c .before .before .before .before .before .before .args .at) (length (c .before .before .before .before .before .before .args .bytes .now)) (c .before .before .before .before .before .before .args .credit))
+planned c clocks blocking fast = decided (keeper (c .before .before .before .before .before .before) clocks blocking fast) (seed _ _ _) _ _ (seed-untimed _ _ _) (c .before .others-in-range .ensures) (c .decide-seed .ensures)
 
 -- it is small
 modest : (c : tie.After-decide-seed) → Small (c .decide-seed .result)
@@ -42,12 +42,12 @@ refused-requires c κs = search needs
 returns : tie.Need-returns
 returns c clocks blocking fast =
     let d = c .before .before .before in
-    rw (c .refused .ensures) (refusal (keeper (d .before .before .before .before) clocks blocking fast) (seededWith _ _ _) [] _ (planned d clocks blocking fast) (c .before .if1 .taken))
+    rw (c .refused .ensures) (refusal (keeper (d .before .before .before .before .before .before) clocks blocking fast) (seededWith _ _ _) [] _ (planned d clocks blocking fast) (c .before .if1 .taken))
 
 feed-requires : tie.Need-feed-requires
 feed-requires c κs =
     let d = c .before .before .before in
-    let k = keeper (d .before .before .before .before) [] [] [] in
+    let k = keeper (d .before .before .before .before .before .before) [] [] [] in
     rw (c .feed-arg .given .0 .1) ((in-pools k (seed _ _ _) _ (planned d [] [] []) (c .before .if1 .left)) .input)
 
 reseed-requires : tie.Need-reseed-requires
@@ -64,7 +64,7 @@ returns-2 c clocks blocking fast =
     let d = t .before .before in
     let r = c .before .reseed .ensures in
     rw (c .carried-out .ensures)
-    (seed-done (keeper (d .before .before .before .before) clocks blocking fast) _ _ _ _ _ _ _ _ _ (planned d clocks blocking fast) (shaped d (t .if1 .left))
+    (seed-done (keeper (d .before .before .before .before .before .before) clocks blocking fast) _ _ _ _ _ _ _ _ _ (planned d clocks blocking fast) (shaped d (t .if1 .left))
     (c .before .before .before .before .before .feed-arg .given .0 .1) (c .before .before .before .before .feed .ensures .0) (r .0) (r .1 .0) (r .1 .1))
 
 pub seed-on-spec : {M : Type 1} → statement M

@@ -23,9 +23,9 @@ keeper s clocks blocking fast =
 
 -- the plan is the one at that record
 planned : (c : tie.After-decide-write) (clocks blocking fast : List ℕ)
-    → c .decide-write .result ≡ planAt (view (keeper (c .before .before .before) clocks blocking fast)) (write (length (c .before .before .before .args .bytes .now)))
+    → c .decide-write .result ≡ planAt (view (keeper (c .before .before .before .before .before) clocks blocking fast)) (write (length (c .before .before .before .before .before .args .bytes .now)))
 planned c clocks blocking fast =
-    decided (keeper (c .before .before .before) clocks blocking fast) (write _) _ _ (write-untimed _) (c .before .others-in-range .ensures) (c .decide-write .ensures)
+    decided (keeper (c .before .before .before .before .before) clocks blocking fast) (write _) _ _ (write-untimed _) (c .before .others-in-range .ensures) (c .decide-write .ensures)
 
 -- it is small
 modest : (c : tie.After-decide-write) → Small (c .decide-write .result)
@@ -47,12 +47,12 @@ refused-requires c κs = search needs
 returns : tie.Need-returns
 returns c clocks blocking fast =
     let d = c .before .before .before in
-    rw (c .refused .ensures) (refusal (keeper (d .before .before .before) clocks blocking fast) (written _) [] _ (planned d clocks blocking fast) (c .before .if1 .taken))
+    rw (c .refused .ensures) (refusal (keeper (d .before .before .before .before .before) clocks blocking fast) (written _) [] _ (planned d clocks blocking fast) (c .before .if1 .taken))
 
 feed-requires : tie.Need-feed-requires
 feed-requires c κs =
     let d = c .before .before .before in
-    let k = keeper (d .before .before .before) [] [] [] in
+    let k = keeper (d .before .before .before .before .before) [] [] [] in
     rw (c .feed-arg .given .0 .1) ((in-pools k (write _) _ (planned d [] [] []) (c .before .if1 .left)) .input)
 
 carried-out-requires : tie.Need-carried-out-requires
@@ -62,7 +62,7 @@ returns-2 : tie.Need-returns-2
 returns-2 c clocks blocking fast =
     let t = c .before .before .before in
     let d = t .before .before in
-    let k = keeper (d .before .before .before) clocks blocking fast in
+    let k = keeper (d .before .before .before .before .before) clocks blocking fast in
     rw (c .carried-out .ensures)
     (write-done k _ _ _ _ (planned d clocks blocking fast) (shaped d (t .if1 .left)) (c .before .before .feed-arg .given .0 .1) (c .before .feed .ensures .0))
 
