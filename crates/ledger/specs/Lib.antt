@@ -1,4 +1,5 @@
 pub mod Choice
+pub mod Sizes
 pub mod Numbers
 pub mod Shapes
 pub mod Places
