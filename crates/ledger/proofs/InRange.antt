@@ -13,11 +13,13 @@ use Rattle.ledger.specs.Choice.{pick}
 use Rattle.ledger.specs.Shapes.{Shape, inputShape, blockingShape}
 use Rattle.ledger.specs.Places.{stepped, moved, movedBlocks, blocksOf}
 use Rattle.ledger.specs.Clocks.{signed, clockDiff}
-use Rattle.ledger.specs.Marks.{inputCount, blockingCount, inputSpot, blockingSpot, valued, tallied, spilled, stays}
-use Rattle.ledger.specs.Range.{restInRange, timerInRange, poolInRange, within, firstInRange, secondInRange, every, fixedWords, sameWords, ledgerInRange, inRange}
+use Rattle.ledger.specs.Timers.{Timers, timerOf}
+use Rattle.ledger.specs.Marks.{counting, valued, tallied, spilled, stays}
+use Rattle.ledger.specs.Range.{View, othersInRange, timerInRange, poolInRange, within, firstInRange, secondInRange, every, fixedWords, sameWords, ledgerInRange, inRange}
 use Rattle.ledger.specs.PublicCalls.{PublicCall, event, interrupt, write, seed, read, blockingRead, brings, deviceOf}
-use Rattle.ledger.specs.Plans.{planOf, rest, feed, transferred, planEvent, planInterrupt, planWrite, planSeed, planRead, planBlockingRead, planCall, decide}
-use Rattle.ledger.specs.Machine.{View, freshView, timerOf, inputMoved, blockingMoved, planned, planAt, stepView}
+use Rattle.ledger.specs.Plans.{planOf, idle, feed, transferred, planEvent, planInterrupt, planWrite, planSeed, planRead, planBlockingRead, planCall, decide}
+use Rattle.ledger.specs.Machine.{freshView, inputMoved, blockingMoved, planned, planAt, stepView}
+use Rattle.ledger.specs.declared.Gauge.{Gauge}
 use Rattle.ledger.specs.declared.Ledger.{Ledger}
 use Rattle.ledger.specs.declared.Plan.{Plan}
 use Rattle.ledger.specs.declared.Spot.{Spot}
@@ -31,15 +33,22 @@ pub record Placed (sh : Shape) (s : Spot) : Type 0 where
   pub at : s .at < sh .words
   pub turn : s .turn ≤ 31
 
--- counts within their sizes, positions and rotations in range, a tally of at most 63, each d1 and d2 in range, generator words 0 to 3
+-- a count within the pool's size, and such a spot
+pub record PoolFine (sh : Shape) (g : Gauge) : Type 0 where
+  pub count : g .count ≤ sh .size
+  pub placed : Placed sh (g .spot)
+
+-- both pools, and a tally of at most 63
+pub record LedgerFine (l : Ledger) : Type 0 where
+  pub input : PoolFine inputShape (l .input)
+  pub blocking : PoolFine blockingShape (l .blocking)
+  pub tally : l .spill .tally ≤ 63
+
+-- with it each d1 and d2 in range, and generator words 0 to 3
 pub record Fine (v : View) : Type 0 where
-  pub input : inputCount (v .ledger) ≤ inputShape .size
-  pub blocking : blockingCount (v .ledger) ≤ blockingShape .size
-  pub inputPlace : Placed inputShape (inputSpot (v .ledger))
-  pub blockingPlace : Placed blockingShape (blockingSpot (v .ledger))
-  pub tally : v .ledger .tally ≤ 63
-  pub firsts : every firstInRange (v .firsts) ≡ true
-  pub seconds : every secondInRange (v .seconds) ≡ true
+  pub ledger : LedgerFine (v .ledger)
+  pub firsts : every firstInRange (v .timers .firsts) ≡ true
+  pub seconds : every secondInRange (v .timers .seconds) ≡ true
   pub fixed : v .fixed ≡ fixedWords
 
 -- lists of words that the test takes for the same are the same
@@ -52,69 +61,62 @@ words-same (x ∷ xs) (y ∷ ys) h =
     let r = words-same xs ys (and-right (eqb x y) (sameWords xs ys) h) in
     cc
 
--- the test of a pool, as a fact of its count
-pool-count : (sh : Shape) (c : ℕ) (s : Spot) → poolInRange sh c s ≡ true → c ≤ sh .size
-pool-count sh c s h = leb-true _ _ (and-left (leb c (sh .size)) (ltb (s .at) (sh .words) && leb (s .turn) 31) h)
+-- the test of a pool gives the facts, and back
+pool-fine : (sh : Shape) (g : Gauge) → poolInRange sh g ≡ true → PoolFine sh g
+pool-fine sh g h =
+    let a = ltb (g .spot .at) (sh .words) in
+    let t = leb (g .spot .turn) 31 in
+    let s = and-right (leb (g .count) (sh .size)) (a && t) h in
+    record { count = leb-true _ _ (and-left (leb (g .count) (sh .size)) (a && t) h); placed = record { at = ltb-true _ _ (and-left a t s); turn = leb-true _ _ (and-right a t s) } }
 
--- and of its spot
-pool-placed : (sh : Shape) (c : ℕ) (s : Spot) → poolInRange sh c s ≡ true → Placed sh s
-pool-placed sh c s h =
-    let g = and-right (leb c (sh .size)) (ltb (s .at) (sh .words) && leb (s .turn) 31) h in
-    record { at = ltb-true _ _ (and-left (ltb (s .at) (sh .words)) (leb (s .turn) 31) g); turn = leb-true _ _ (and-right (ltb (s .at) (sh .words)) (leb (s .turn) 31) g) }
+pool-tests : (sh : Shape) (g : Gauge) → PoolFine sh g → poolInRange sh g ≡ true
+pool-tests sh g f =
+    let a = ltb (g .spot .at) (sh .words) in
+    let t = leb (g .spot .turn) 31 in
+    both (leb (g .count) (sh .size)) (a && t) (le-leb _ _ (f .count)) (both a t (lt-ltb _ _ (f .placed .at)) (le-leb _ _ (f .placed .turn)))
 
--- and back from both
-pool-tests : (sh : Shape) (c : ℕ) (s : Spot) → c ≤ sh .size → Placed sh s → poolInRange sh c s ≡ true
-pool-tests sh c s h g =
-    both (leb c (sh .size)) (ltb (s .at) (sh .words) && leb (s .turn) 31) (le-leb _ _ h)
-    (both (ltb (s .at) (sh .words)) (leb (s .turn) 31) (lt-ltb _ _ (g .at)) (le-leb _ _ (g .turn)))
+-- so does a ledger's
+pub ledger-fine : (l : Ledger) → ledgerInRange l ≡ true → LedgerFine l
+unfolding ledgerInRange
+ledger-fine l h =
+    let i = poolInRange inputShape (l .input) in
+    let b = poolInRange blockingShape (l .blocking) in
+    let t = leb (l .spill .tally) 63 in
+    let r = and-right i (b && t) h in
+    record { input = pool-fine inputShape (l .input) (and-left i (b && t) h); blocking = pool-fine blockingShape (l .blocking) (and-left b t r); tally = leb-true _ _ (and-right b t r) }
 
--- the range test of a view
-abbrev pub viewInRange : View → Bool
-viewInRange v = inRange (v .ledger) (v .firsts) (v .seconds) (v .fixed)
+ledger-tests : (l : Ledger) → LedgerFine l → ledgerInRange l ≡ true
+unfolding ledgerInRange
+ledger-tests l f =
+    let b = poolInRange blockingShape (l .blocking) in
+    let t = leb (l .spill .tally) 63 in
+    both (poolInRange inputShape (l .input)) (b && t) (pool-tests inputShape (l .input) (f .input)) (both b t (pool-tests blockingShape (l .blocking) (f .blocking)) (le-leb _ _ (f .tally)))
 
--- a view that passes the range test is fine
-pub fine : (v : View) → viewInRange v ≡ true → Fine v
-unfolding inRange restInRange ledgerInRange
+-- and the whole test
+pub fine : (v : View) → inRange v ≡ true → Fine v
+unfolding inRange othersInRange
 fine v h =
-    let l = v .ledger in
-    let i = poolInRange inputShape (inputCount l) (inputSpot l) in
-    let b = poolInRange blockingShape (blockingCount l) (blockingSpot l) in
-    let t = leb (l .tally) 63 in
-    let d = every firstInRange (v .firsts) in
-    let e = every secondInRange (v .seconds) in
+    let l = ledgerInRange (v .ledger) in
+    let d = every firstInRange (v .timers .firsts) in
+    let e = every secondInRange (v .timers .seconds) in
     let w = sameWords (v .fixed) fixedWords in
-    let p = and-left (i && (b && t)) (d && (e && w)) h in
-    let q = and-right (i && (b && t)) (d && (e && w)) h in
-    let pi = and-left i (b && t) p in
-    let pb = and-left b t (and-right i (b && t) p) in
-    let qe = and-right d (e && w) q in
+    let q = and-right l ((d && e) && w) h in
+    let t = and-left (d && e) w q in
     record {
-      input = pool-count inputShape (inputCount l) (inputSpot l) pi;
-      blocking = pool-count blockingShape (blockingCount l) (blockingSpot l) pb;
-      inputPlace = pool-placed inputShape (inputCount l) (inputSpot l) pi;
-      blockingPlace = pool-placed blockingShape (blockingCount l) (blockingSpot l) pb;
-      tally = leb-true _ _ (and-right b t (and-right i (b && t) p));
-      firsts = and-left d (e && w) q;
-      seconds = and-left e w qe;
-      fixed = words-same (v .fixed) fixedWords (and-right e w qe);
+      ledger = ledger-fine (v .ledger) (and-left l ((d && e) && w) h);
+      firsts = and-left d e t;
+      seconds = and-right d e t;
+      fixed = words-same (v .fixed) fixedWords (and-right (d && e) w q);
     }
 
--- a view that is fine passes the range test
-pub fine-in-range : (v : View) → Fine v → viewInRange v ≡ true
-unfolding inRange restInRange ledgerInRange
+pub fine-in-range : (v : View) → Fine v → inRange v ≡ true
+unfolding inRange othersInRange
 fine-in-range v f =
-    let l = v .ledger in
-    let i = poolInRange inputShape (inputCount l) (inputSpot l) in
-    let b = poolInRange blockingShape (blockingCount l) (blockingSpot l) in
-    let t = leb (l .tally) 63 in
-    let d = every firstInRange (v .firsts) in
-    let e = every secondInRange (v .seconds) in
+    let d = every firstInRange (v .timers .firsts) in
+    let e = every secondInRange (v .timers .seconds) in
     let w = sameWords (v .fixed) fixedWords in
     let same : w ≡ true = rw (f .fixed) refl in
-    both (i && (b && t)) (d && (e && w))
-    (both i (b && t) (pool-tests inputShape (inputCount l) (inputSpot l) (f .input) (f .inputPlace))
-    (both b t (pool-tests blockingShape (blockingCount l) (blockingSpot l) (f .blocking) (f .blockingPlace)) (le-leb _ _ (f .tally))))
-    (both d (e && w) (f .firsts) (both e w (f .seconds) same))
+    both (ledgerInRange (v .ledger)) ((d && e) && w) (ledger-tests (v .ledger) (f .ledger)) (both (d && e) w (both d e (f .firsts) (f .seconds)) same)
 
 -- ---- places
 -- one byte, whatever the place was
@@ -180,27 +182,11 @@ every-set t (x ∷ xs) (suc i) y h k =
     both (t x) (every t (set xs i y)) (and-left (t x) (every t xs) h) (every-set t xs i y (and-right (t x) (every t xs) h) k)
 
 -- ---- plans
--- the counts and the tally of a ledger in range
-pub record LedgerFine (l : Ledger) : Type 0 where
-  pub input : inputCount l ≤ inputShape .size
-  pub blocking : blockingCount l ≤ blockingShape .size
-  pub tally : l .tally ≤ 63
+-- another count within its size
+counted : {sh : Shape} {g : Gauge} (c : ℕ) → c ≤ sh .size → PoolFine sh g → PoolFine sh (counting c g)
+counted c h f = record { count = h; placed = f .placed }
 
--- a ledger that passes its part of the range test has them
-pub ledger-fine : (l : Ledger) → ledgerInRange l ≡ true → LedgerFine l
-unfolding ledgerInRange
-ledger-fine l h =
-    let i = poolInRange inputShape (inputCount l) (inputSpot l) in
-    let b = poolInRange blockingShape (blockingCount l) (blockingSpot l) in
-    let t = leb (l .tally) 63 in
-    let r = and-right i (b && t) h in
-    record {
-      input = pool-count inputShape (inputCount l) (inputSpot l) (and-left i (b && t) h);
-      blocking = pool-count blockingShape (blockingCount l) (blockingSpot l) (and-left b t r);
-      tally = leb-true _ _ (and-right b t r);
-    }
-
--- a plan that leaves them so, with a timer in range
+-- a plan that leaves the ledger in range, with a timer in range
 record PlanFine (p : Plan) : Type 0 where
   ledger : LedgerFine (p .ledger)
   first : firstInRange (p .timer .d1) ≡ true
@@ -211,15 +197,15 @@ plain-fine : (number : ℕ) (l : Ledger) (stirs feeds : Bool) (r t d s : ℕ) �
 plain-fine number l stirs feeds r t d s f = record { ledger = f; first = refl; second = refl }
 
 -- nothing done
-rest-fine : (n : ℕ) (l : Ledger) → LedgerFine l → PlanFine (rest n l)
-rest-fine n l f = plain-fine n l false false 0 0 0 0 f
+idle-fine : (n : ℕ) (l : Ledger) → LedgerFine l → PlanFine (idle n l)
+idle-fine n l f = plain-fine n l false false 0 0 0 0 f
 
 -- a credit, with a first seeding or without
 feed-fine : (now : ℕ) (stirs : Bool) (n : ℕ) (l : Ledger) → LedgerFine l → PlanFine (feed now stirs n l)
 unfolding feed
 feed-fine now stirs n l f =
     record {
-      ledger = record { input = omega (arith, credited-room 32768 n (inputCount l) (omega arith) (f .input)); blocking = f .blocking; tally = f .tally };
+      ledger = record { input = counted _ (omega (arith, credited-room 32768 n (l .input .count) (omega arith) (f .input .count))) (f .input); blocking = f .blocking; tally = f .tally };
       first = refl;
       second = refl;
     }
@@ -230,7 +216,7 @@ unfolding planEvent
 event-fine device now value t l h f =
     let g = feed-fine now false _ (valued device value l) (record { input = f .input; blocking = f .blocking; tally = f .tally }) in
     let d = diff-within now (t .clock) in
-    pick-both PlanFine _ (rest-fine 4 l f) (pick-both PlanFine _ (rest-fine 7 l f)
+    pick-both PlanFine _ (idle-fine 4 l f) (pick-both PlanFine _ (idle-fine 7 l f)
     (record { ledger = g .ledger; first = d; second = second-within (clockDiff now (t .clock)) (t .d1) d h }))
 
 -- an interrupt that only stirs leaves a tally of at most 63
@@ -242,32 +228,32 @@ interrupt-fine : (now : ℕ) (l : Ledger) → LedgerFine l → PlanFine (planInt
 unfolding planInterrupt
 interrupt-fine now l f =
     pick-by PlanFine (stays now l)
-    (λ e. plain-fine 0 (tallied l) true false 0 0 0 0 (record { input = f .input; blocking = f .blocking; tally = stay-tally _ (l .tally) e }))
+    (λ e. plain-fine 0 (tallied l) true false 0 0 0 0 (record { input = f .input; blocking = f .blocking; tally = stay-tally _ (l .spill .tally) e }))
     (λ e. feed-fine now true 1 (spilled now l) (record { input = f .input; blocking = f .blocking; tally = omega arith }))
 
 -- a generator read
 read-fine : (now len : ℕ) (l : Ledger) → LedgerFine l → PlanFine (planRead now len l)
 unfolding planRead
 read-fine now len l f =
-    pick-both PlanFine _ (rest-fine 3 l f) (pick-both PlanFine _ (rest-fine 0 l f) (pick-both PlanFine _ (rest-fine 2 l f)
-    (record { ledger = record { input = omega (arith, f .input); blocking = f .blocking; tally = f .tally }; first = refl; second = refl })))
+    pick-both PlanFine _ (idle-fine 3 l f) (pick-both PlanFine _ (idle-fine 0 l f) (pick-both PlanFine _ (idle-fine 2 l f)
+    (record { ledger = record { input = counted _ (omega (arith, f .input .count)) (f .input); blocking = f .blocking; tally = f .tally }; first = refl; second = refl })))
 
 -- a blocking read
 blocking-fine : (n : ℕ) (l : Ledger) → LedgerFine l → PlanFine (planBlockingRead n l)
 unfolding planBlockingRead
 blocking-fine n l f =
-    let r = credited-room 8192 (8 * transferred n l) (blockingCount l) (omega arith) (f .blocking) in
-    pick-both PlanFine _ (rest-fine 3 l f) (pick-both PlanFine _ (rest-fine 0 l f) (pick-both PlanFine _ (rest-fine 1 l f)
-    (record { ledger = record { input = omega (arith, f .input); blocking = omega (arith, r); tally = f .tally }; first = refl; second = refl })))
+    let r = credited-room 8192 (8 * transferred n l) (l .blocking .count) (omega arith) (f .blocking .count) in
+    pick-both PlanFine _ (idle-fine 3 l f) (pick-both PlanFine _ (idle-fine 0 l f) (pick-both PlanFine _ (idle-fine 1 l f)
+    (record { ledger = record { input = counted _ (omega (arith, f .input .count)) (f .input); blocking = counted _ (omega (arith, r)) (f .blocking); tally = f .tally }; first = refl; second = refl })))
 
 -- each call
 plan-fine : (l : Ledger) (t : Timer) (c : PublicCall) → firstInRange (t .d1) ≡ true → LedgerFine l → PlanFine (planCall l t c)
 unfolding planCall planWrite planSeed
 plan-fine l t (event device now value) h f = event-fine device now value t l h f
 plan-fine l t (interrupt now number) h f = interrupt-fine now l f
-plan-fine l t (write len) h f = pick-both PlanFine _ (rest-fine 3 l f) (plain-fine 0 l false true 0 0 0 0 f)
+plan-fine l t (write len) h f = pick-both PlanFine _ (idle-fine 3 l f) (plain-fine 0 l false true 0 0 0 0 f)
 plan-fine l t (seed now len credit) h f =
-    pick-both PlanFine _ (rest-fine 3 l f) (pick-both PlanFine _ (rest-fine 5 l f) (feed-fine now false credit l f))
+    pick-both PlanFine _ (idle-fine 3 l f) (pick-both PlanFine _ (idle-fine 5 l f) (feed-fine now false credit l f))
 plan-fine l t (read now len) h f = read-fine now len l f
 plan-fine l t (blockingRead len) h f = blocking-fine len l f
 
@@ -275,10 +261,9 @@ plan-fine l t (blockingRead len) h f = blocking-fine len l f
 decide-fine : (v : View) (c : PublicCall) → Fine v → PlanFine (planAt v c)
 unfolding decide
 decide-fine v c f =
-    let g : LedgerFine (v .ledger) = record { input = f .input; blocking = f .blocking; tally = f .tally } in
     pick-both PlanFine _
-    (plan-fine (v .ledger) _ c (every-at firstInRange (v .firsts) (deviceOf c) (pos 0) (f .firsts) refl) g)
-    (rest-fine 17 (v .ledger) g)
+    (plan-fine (v .ledger) _ c (every-at firstInRange (v .timers .firsts) (deviceOf c) (pos 0) (f .firsts) refl) (f .ledger))
+    (idle-fine 17 (v .ledger) (f .ledger))
 
 -- ---- a call leaves a fine view fine
 pub step-fine : (v : View) (c : PublicCall) → Fine v → Fine ((stepView v c) .view)
@@ -287,22 +272,23 @@ step-fine v c f =
     let p = planAt v c in
     let g = decide-fine v c f in
     let n = pick (p .feeds) (brings c) 0 in
-    let i = moved-placed inputShape n (inputSpot (v .ledger)) (omega arith) (f .inputPlace) in
-    let b = moved-placed blockingShape (p .transfer) (blockingSpot (v .ledger)) (omega arith) (f .blockingPlace) in
+    let i = moved-placed inputShape n (v .ledger .input .spot) (omega arith) (f .ledger .input .placed) in
+    let b = moved-placed blockingShape (p .transfer) (v .ledger .blocking .spot) (omega arith) (f .ledger .blocking .placed) in
     record {
-      input = g .ledger .input;
-      blocking = g .ledger .blocking;
-      inputPlace = blocks-placed inputShape (blocksOf (p .transfer)) _ (omega arith) (blocks-placed inputShape (blocksOf (p .reseed)) _ (omega arith) i);
-      blockingPlace = blocks-placed blockingShape (blocksOf (p .deliver)) _ (omega arith) b;
-      tally = g .ledger .tally;
-      firsts = pick-both (λ xs. every firstInRange xs ≡ true) (p .keeps) (every-set firstInRange (v .firsts) (deviceOf c) _ (f .firsts) (g .first)) (f .firsts);
-      seconds = pick-both (λ xs. every secondInRange xs ≡ true) (p .keeps) (every-set secondInRange (v .seconds) (deviceOf c) _ (f .seconds) (g .second)) (f .seconds);
+      ledger =
+          record {
+            input = record { count = g .ledger .input .count; placed = blocks-placed inputShape (blocksOf (p .transfer)) _ (omega arith) (blocks-placed inputShape (blocksOf (p .reseed)) _ (omega arith) i) };
+            blocking = record { count = g .ledger .blocking .count; placed = blocks-placed blockingShape (blocksOf (p .deliver)) _ (omega arith) b };
+            tally = g .ledger .tally;
+          };
+      firsts = pick-both (λ (ts : Timers). every firstInRange (ts .firsts) ≡ true) (p .keeps) (every-set firstInRange (v .timers .firsts) (deviceOf c) _ (f .firsts) (g .first)) (f .firsts);
+      seconds = pick-both (λ (ts : Timers). every secondInRange (ts .seconds) ≡ true) (p .keeps) (every-set secondInRange (v .timers .seconds) (deviceOf c) _ (f .seconds) (g .second)) (f .seconds);
       fixed = f .fixed;
     }
 
 -- the fresh view is fine
 pub fresh-fine : Fine freshView
-unfolding inRange restInRange ledgerInRange
+unfolding inRange othersInRange ledgerInRange
 fresh-fine = fine freshView refl
 
 -- ---- the test that a plan makes is the whole test
@@ -313,24 +299,23 @@ agree true false t h = refl
 agree false true t h = refl
 agree false false t h = refl
 
-timer-fine : (v : View) (device : ℕ) → restInRange (v .firsts) (v .seconds) (v .fixed) ≡ true → timerInRange (timerOf (v .clocks) (v .firsts) (v .seconds) device) ≡ true
-unfolding restInRange
+timer-fine : (v : View) (device : ℕ) → othersInRange (v .timers) (v .fixed) ≡ true → timerInRange (timerOf (v .timers) device) ≡ true
+unfolding othersInRange
 timer-fine v device h =
-    let d = every firstInRange (v .firsts) in
-    let e = every secondInRange (v .seconds) in
-    let w = sameWords (v .fixed) fixedWords in
-    both (firstInRange (getD (v .firsts) device (pos 0))) (secondInRange (getD (v .seconds) device (pos 0)))
-    (every-at firstInRange (v .firsts) device (pos 0) (and-left d (e && w) h) refl)
-    (every-at secondInRange (v .seconds) device (pos 0) (and-left e w (and-right d (e && w) h)) refl)
+    let d = every firstInRange (v .timers .firsts) in
+    let e = every secondInRange (v .timers .seconds) in
+    let t = and-left (d && e) (sameWords (v .fixed) fixedWords) h in
+    let u = timerOf (v .timers) device in
+    both (firstInRange (u .d1)) (secondInRange (u .d2)) (every-at firstInRange (v .timers .firsts) device (pos 0) (and-left d e t) refl) (every-at secondInRange (v .timers .seconds) device (pos 0) (and-right d e t) refl)
 
 pub seen-range : (v : View) (device : ℕ)
-    → (restInRange (v .firsts) (v .seconds) (v .fixed) && (ledgerInRange (v .ledger) && timerInRange (timerOf (v .clocks) (v .firsts) (v .seconds) device))) ≡ viewInRange v
+    → (othersInRange (v .timers) (v .fixed) && (ledgerInRange (v .ledger) && timerInRange (timerOf (v .timers) device))) ≡ inRange v
 unfolding inRange
 seen-range v device =
-    agree (restInRange (v .firsts) (v .seconds) (v .fixed)) (ledgerInRange (v .ledger)) (timerInRange (timerOf (v .clocks) (v .firsts) (v .seconds) device)) (timer-fine v device)
+    agree (othersInRange (v .timers) (v .fixed)) (ledgerInRange (v .ledger)) (timerInRange (timerOf (v .timers) device)) (timer-fine v device)
 
 pub plan-at-is : (v : View) (c : PublicCall)
-    → planAt v c ≡ pick (viewInRange v) (planCall (v .ledger) (timerOf (v .clocks) (v .firsts) (v .seconds) (deviceOf c)) c) (rest 17 (v .ledger))
+    → planAt v c ≡ pick (inRange v) (planCall (v .ledger) (timerOf (v .timers) (deviceOf c)) c) (idle 17 (v .ledger))
 unfolding decide
 plan-at-is v c = rw (seen-range v (deviceOf c))
 
@@ -352,12 +337,12 @@ plan-low l t (blockingRead len) =
     pick-both Low _ (record { low = omega arith }) (pick-both Low _ (record { low = omega arith }) (pick-both Low _ (record { low = omega arith }) (record { low = omega arith })))
 
 -- in range, the answer is at most 7
-pub fine-low : (v : View) (c : PublicCall) → Fine v → (stepView v c) .number ≤ 7
+pub fine-low : (v : View) (c : PublicCall) → Fine v → (stepView v c) .answer .number ≤ 7
 unfolding stepView planned pick
-fine-low v c f = rw (plan-at-is v c, fine-in-range v f) ((plan-low (v .ledger) (timerOf (v .clocks) (v .firsts) (v .seconds) (deviceOf c)) c) .low)
+fine-low v c f = rw (plan-at-is v c, fine-in-range v f) ((plan-low (v .ledger) (timerOf (v .timers) (deviceOf c)) c) .low)
 
 -- out of range, every call is answered 17
-pub out-of-range : (v : View) (c : PublicCall) → viewInRange v ≡ false → (stepView v c) .number ≡ 17
+pub out-of-range : (v : View) (c : PublicCall) → inRange v ≡ false → (stepView v c) .answer .number ≡ 17
 unfolding stepView planned pick
 out-of-range v c h = rw (plan-at-is v c, h) refl
 
@@ -373,5 +358,5 @@ after-fine v [] f = f
 after-fine v (c ∷ cs) f = after-fine ((stepView v c) .view) cs (step-fine v c f)
 
 -- after any calls on a fresh keeper, no call is answered 17
-pub never-17 : (cs : List PublicCall) (c : PublicCall) → (stepView (viewAfter freshView cs) c) .number ≡ 17 → ⊥
+pub never-17 : (cs : List PublicCall) (c : PublicCall) → (stepView (viewAfter freshView cs) c) .answer .number ≡ 17 → ⊥
 never-17 cs c e = omega (arith, fine-low (viewAfter freshView cs) c (after-fine freshView cs fresh-fine))

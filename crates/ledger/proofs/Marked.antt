@@ -10,11 +10,12 @@ use Rattle.ledger.specs.Choice.{pick}
 use Rattle.ledger.specs.Places.{moved, movedBlocks}
 use Rattle.ledger.specs.Credits.{turnTakes, turnAdds, further, credited, taken}
 use Rattle.ledger.specs.Clocks.{signed, clockDiff, log2, estimate, eventBits}
-use Rattle.ledger.specs.Marks.{inputCount, blockingCount, inputSpot, blockingSpot, lastValue, lastSpill, seedingClock, isSeeded, freshLedger}
-use Rattle.ledger.specs.Range.{fixedWords, ledgerInRange, restInRange}
+use Rattle.ledger.specs.Marks.{withSeeding, isSeeded, freshLedger}
+use Rattle.ledger.specs.Timers.{freshTimers, kept}
+use Rattle.ledger.specs.Range.{View, fixedWords, ledgerInRange, othersInRange}
 use Rattle.ledger.specs.PublicCalls.{PublicCall, event, interrupt, write, seed, read, blockingRead}
 use Rattle.ledger.specs.Plans.{firstSeeding, feed, planEvent, planInterrupt, planWrite, planSeed, planRead, planBlockingRead, planCall, decide}
-use Rattle.ledger.specs.Machine.{View, Shown, freshView, inputMoved, blockingMoved, planned, planAt, stepView}
+use Rattle.ledger.specs.Machine.{Shown, freshView, inputMoved, blockingMoved, planned, planAt, stepView}
 use Rattle.ledger.specs.declared.Spot.{Spot}
 use Rattle.ledger.proofs.InRange.{viewAfter}
 
@@ -25,7 +26,7 @@ Line = ℕ × ℕ × ℕ × ℕ × ℕ × ℕ × Bool
 
 -- what an answer shows
 abbrev pub line : Shown → Line
-line s = (s .number, s .delivered, inputCount (s .view .ledger), blockingCount (s .view .ledger), s .blocks, s .compressions, isSeeded (s .view .ledger))
+line s = (s .answer .number, s .answer .delivered, s .view .ledger .input .count, s .view .ledger .blocking .count, s .answer .blocks, s .answer .compressions, isSeeded (s .view .ledger))
 
 -- the lines of calls made one after the other
 unfoldable pub linesFrom : View → List PublicCall → List Line
@@ -48,11 +49,11 @@ fresh cs = from freshView cs
 
 -- what each of some calls is answered at one and the same view
 abbrev pub each : View → List PublicCall → Side
-each v cs = numbers (map (λ c. (stepView v c) .number) cs)
+each v cs = numbers (map (λ c. (stepView v c) .answer .number) cs)
 
 -- what one call is answered at each of some views
 abbrev pub atEach : List View → PublicCall → Side
-atEach vs c = numbers (map (λ v. (stepView v c) .number) vs)
+atEach vs c = numbers (map (λ v. (stepView v c) .answer .number) vs)
 
 -- a seed of just enough bytes for n bits, at clock 0
 abbrev pub bits : ℕ → PublicCall
@@ -66,10 +67,8 @@ spot i r = record { at = i; turn = r }
 abbrev pub but : ℕ → ℕ → Spot → Spot → ℕ → ℤ → ℤ → List ℕ → View
 but i b si sb n d1 d2 words =
     record {
-      ledger = record { «input_count» = i; «blocking_count» = b; «input_spot» = si; «blocking_spot» = sb; «last_value» = 0; tally = n; «last_spill» = 0; seeded = 0; «seeding_clock» = 0 };
-      clocks = freshView .clocks;
-      firsts = set (freshView .firsts) 15 d1;
-      seconds = set (freshView .seconds) 15 d2;
+      ledger = record { input = record { count = i; spot = si }; blocking = record { count = b; spot = sb }; value = 0; spill = record { tally = n; clock = 0 }; seeding = freshLedger .seeding };
+      timers = kept 15 (record { clock = 0; d1 = d1; d2 = d2 }) freshTimers;
       fixed = words;
     }
 
@@ -79,20 +78,13 @@ counts i b = but i b (spot 0 0) (spot 0 0) 0 (pos 0) (pos 0) fixedWords
 
 -- a view that is fresh but for its seeded mark
 abbrev pub seededMark : ℕ → View
-seededMark n =
-    record {
-      ledger = record { «input_count» = 0; «blocking_count» = 0; «input_spot» = spot 0 0; «blocking_spot» = spot 0 0; «last_value» = 0; tally = 0; «last_spill» = 0; seeded = n; «seeding_clock» = 0 };
-      clocks = freshView .clocks;
-      firsts = freshView .firsts;
-      seconds = freshView .seconds;
-      fixed = fixedWords;
-    }
+seededMark n = record { ledger = withSeeding (record { mark = n; clock = 0 }) freshLedger; timers = freshTimers; fixed = fixedWords }
 
 -- where the next bytes go in both pools after calls made one after the other from a view
 abbrev pub spotsAfter : View → List PublicCall → List ℕ
 spotsAfter v cs =
     let l = (viewAfter v cs) .ledger in
-    (inputSpot l) .at ∷ (inputSpot l) .turn ∷ (blockingSpot l) .at ∷ (blockingSpot l) .turn ∷ []
+    l .input .spot .at ∷ l .input .spot .turn ∷ l .blocking .spot .at ∷ l .blocking .spot .turn ∷ []
 
 -- ---- the table
 abbrev pub table : List (Side × Side)
@@ -163,7 +155,7 @@ table =
     ∷ (from (counts 32768 0) (blockingRead 4096 ∷ []), lines ((0, 78, 24576, 0, 0, 120, false) ∷ []))
     ∷ (from (counts 32768 640) (blockingRead 10 ∷ []), lines ((0, 10, 32768, 0, 0, 2, false) ∷ []))
     -- a fresh ledger is all zero
-    ∷ (numbers (inputCount freshLedger ∷ blockingCount freshLedger ∷ lastValue freshLedger ∷ freshLedger .tally ∷ lastSpill freshLedger ∷ freshLedger .seeded ∷ seedingClock freshLedger ∷ spotsAfter freshView []), numbers (replicate 11 0))
+    ∷ (numbers (freshLedger .input .count ∷ freshLedger .blocking .count ∷ freshLedger .value ∷ freshLedger .spill .tally ∷ freshLedger .spill .clock ∷ freshLedger .seeding .mark ∷ freshLedger .seeding .clock ∷ spotsAfter freshView []), numbers (replicate 11 0))
     -- the position falls by one a byte and the rotation grows by 7, or by 14 at position 0: after 1, 127, 128 and 129 bytes
     ∷ (numbers (spotsAfter freshView (write 1 ∷ [])), numbers (127 ∷ 7 ∷ 0 ∷ 0 ∷ []))
     ∷ (numbers (spotsAfter freshView (write 127 ∷ [])), numbers (1 ∷ 25 ∷ 0 ∷ 0 ∷ []))
@@ -196,5 +188,5 @@ table =
 
 -- in every row, what the definitions give is what it has to be
 pub marked : map (λ (row : Side × Side). row .0) table ≡ map (λ (row : Side × Side). row .1) table
-unfolding pick signed log2 estimate eventBits further credited taken ledgerInRange restInRange moved movedBlocks firstSeeding feed planEvent planInterrupt planWrite planSeed planRead planBlockingRead planCall decide inputMoved blockingMoved planned stepView viewAfter linesFrom
+unfolding pick signed log2 estimate eventBits further credited taken ledgerInRange othersInRange moved movedBlocks firstSeeding feed planEvent planInterrupt planWrite planSeed planRead planBlockingRead planCall decide inputMoved blockingMoved planned stepView viewAfter linesFrom
 marked = refl

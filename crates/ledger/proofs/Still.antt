@@ -8,12 +8,15 @@ use lib.Dec.{ltb}
 use borrow.Author.Tests.{ltb-false}
 use Rattle.ledger.specs.Choice.{pick}
 use Rattle.ledger.specs.Places.{moved, movedBlocks}
-use Rattle.ledger.specs.Range.{restInRange}
+use Rattle.ledger.specs.Timers.{timerOf}
+use Rattle.ledger.specs.Range.{View, othersInRange}
+use Rattle.ledger.specs.Marks.{seedingAt}
 use Rattle.ledger.specs.PublicCalls.{PublicCall, event, interrupt, write, seed, read, blockingRead, asked, deviceOf}
-use Rattle.ledger.specs.Plans.{rest, feed, transferred, refilled, planEvent, planInterrupt, planWrite, planSeed, planRead, planBlockingRead, planCall, decide}
-use Rattle.ledger.specs.Machine.{View, Shown, timerOf, inputMoved, blockingMoved, planned, planAt, stepView}
+use Rattle.ledger.specs.Plans.{idle, feed, transferred, refilled, planEvent, planInterrupt, planWrite, planSeed, planRead, planBlockingRead, planCall, decide}
+use Rattle.ledger.specs.Machine.{Shown, inputMoved, blockingMoved, planned, planAt, stepView}
 use Rattle.ledger.specs.declared.Ledger.{Ledger}
 use Rattle.ledger.specs.declared.Plan.{Plan}
+use Rattle.ledger.specs.declared.Seeding.{Seeding}
 use Rattle.ledger.specs.declared.Timer.{Timer}
 use Rattle.ledger.proofs.Picks.{pick-both, pick-by}
 use Rattle.ledger.proofs.Crediting.{taken-wanted}
@@ -22,7 +25,7 @@ use Rattle.ledger.proofs.Crediting.{taken-wanted}
 -- a plan that answers 0, or does nothing
 data Still (l : Ledger) (p : Plan) : Type 0 where
   answers : p .number ≡ 0 → Still l p
-  rests : p ≡ rest (p .number) l → Still l p
+  rests : p ≡ idle (p .number) l → Still l p
 
 -- each call has such a plan
 plan-still : (l : Ledger) (t : Timer) (c : PublicCall) → Still l (planCall l t c)
@@ -41,21 +44,21 @@ decide-still others l t c = pick-both (Still l) _ (plan-still l t c) (rests refl
 
 -- an answer n that shows a view as it was, and no work
 abbrev pub unmoved : ℕ → View → Shown
-unmoved n v = record { view = v; number = n; delivered = 0; blocks = 0; compressions = 0 }
+unmoved n v = record { view = v; answer = record { number = n; delivered = 0; blocks = 0; compressions = 0 } }
 
 -- doing nothing shows the view as it was
-rest-unmoved : (n : ℕ) (c : PublicCall) (v : View) → planned c (rest n (v .ledger)) v ≡ unmoved n v
+idle-unmoved : (n : ℕ) (c : PublicCall) (v : View) → planned c (idle n (v .ledger)) v ≡ unmoved n v
 unfolding planned inputMoved blockingMoved moved movedBlocks pick
-rest-unmoved n c v = refl
+idle-unmoved n c v = refl
 
 -- a call that is not answered 0 shows the view as it was
-pub refused : (v : View) (c : PublicCall) → ((stepView v c) .number ≡ 0 → ⊥) → stepView v c ≡ unmoved ((stepView v c) .number) v
+pub refused : (v : View) (c : PublicCall) → ((stepView v c) .answer .number ≡ 0 → ⊥) → stepView v c ≡ unmoved ((stepView v c) .answer .number) v
 unfolding stepView planned
-refused v c h = go (decide-still (restInRange (v .firsts) (v .seconds) (v .fixed)) (v .ledger) (timerOf (v .clocks) (v .firsts) (v .seconds) (deviceOf c)) c)
+refused v c h = go (decide-still (othersInRange (v .timers) (v .fixed)) (v .ledger) (timerOf (v .timers) (deviceOf c)) c)
   where
     go : Still (v .ledger) (planAt v c) → planned c (planAt v c) v ≡ unmoved ((planAt v c) .number) v
     go (answers e) = absurd (h e)
-    go (rests e) = rw e (rest-unmoved _ c v)
+    go (rests e) = rw e (idle-unmoved _ c v)
 
 -- ---- what is delivered
 -- a plan that hands out n bytes at most, and 4,096 at most
@@ -64,7 +67,7 @@ record AtMost (n : ℕ) (p : Plan) : Type 0 where
   limit : p .deliver + p .stream ≤ 4096
 
 -- nothing done hands out nothing
-none : (n k : ℕ) (l : Ledger) → AtMost n (rest k l)
+none : (n k : ℕ) (l : Ledger) → AtMost n (idle k l)
 none n k l = record { wanted = omega arith; limit = omega arith }
 
 -- a generator read
@@ -95,33 +98,33 @@ plan-asked l t (read now len) = read-asked now len l
 plan-asked l t (blockingRead len) = blocking-asked len l
 
 -- no call delivers more than was asked for, nor more than 4,096 bytes
-pub delivered-fits : (v : View) (c : PublicCall) → ((stepView v c) .delivered ≤ asked c) × ((stepView v c) .delivered ≤ 4096)
+pub delivered-fits : (v : View) (c : PublicCall) → ((stepView v c) .answer .delivered ≤ asked c) × ((stepView v c) .answer .delivered ≤ 4096)
 unfolding stepView planned decide
 delivered-fits v c =
-    let b = pick-both (AtMost (asked c)) _ (plan-asked (v .ledger) (timerOf (v .clocks) (v .firsts) (v .seconds) (deviceOf c)) c) (none (asked c) 17 (v .ledger)) in
+    let b = pick-both (AtMost (asked c)) _ (plan-asked (v .ledger) (timerOf (v .timers) (deviceOf c)) c) (none (asked c) 17 (v .ledger)) in
     (b .wanted, b .limit)
 
 -- ---- seeded for good
 -- a plan that leaves the ledger seeded
 record Seeded (p : Plan) : Type 0 where
-  seeded : p .ledger .seeded ≡ 1
+  seeded : p .ledger .seeding .mark ≡ 1
 
 -- a mark that is set stays set under a choice of itself or set
-kept : (t : Bool) (m : ℕ) → m ≡ 1 → pick t m 1 ≡ 1
-kept t m h = pick-both (λ (n : ℕ). n ≡ 1) t h refl
+kept : (t : Bool) (now : ℕ) (s : Seeding) → s .mark ≡ 1 → (pick t s (seedingAt now)) .mark ≡ 1
+kept t now s h = pick-both (λ (m : Seeding). m .mark ≡ 1) t h refl
 
 -- each call leaves a seeded ledger seeded
-plan-seeded : (l : Ledger) (t : Timer) (c : PublicCall) → l .seeded ≡ 1 → Seeded (planCall l t c)
+plan-seeded : (l : Ledger) (t : Timer) (c : PublicCall) → l .seeding .mark ≡ 1 → Seeded (planCall l t c)
 unfolding planCall planEvent planInterrupt planWrite planSeed planRead planBlockingRead feed
-plan-seeded l t (event device now value) h = pick-both Seeded _ (record { seeded = h }) (pick-both Seeded _ (record { seeded = h }) (record { seeded = kept _ (l .seeded) h }))
-plan-seeded l t (interrupt now number) h = pick-both Seeded _ (record { seeded = h }) (record { seeded = kept _ (l .seeded) h })
+plan-seeded l t (event device now value) h = pick-both Seeded _ (record { seeded = h }) (pick-both Seeded _ (record { seeded = h }) (record { seeded = kept _ now (l .seeding) h }))
+plan-seeded l t (interrupt now number) h = pick-both Seeded _ (record { seeded = h }) (record { seeded = kept _ now (l .seeding) h })
 plan-seeded l t (write len) h = pick-both Seeded _ (record { seeded = h }) (record { seeded = h })
-plan-seeded l t (seed now len credit) h = pick-both Seeded _ (record { seeded = h }) (pick-both Seeded _ (record { seeded = h }) (record { seeded = kept _ (l .seeded) h }))
-plan-seeded l t (read now len) h = pick-both Seeded _ (record { seeded = h }) (pick-both Seeded _ (record { seeded = h }) (pick-both Seeded _ (record { seeded = h }) (record { seeded = kept _ (l .seeded) h })))
+plan-seeded l t (seed now len credit) h = pick-both Seeded _ (record { seeded = h }) (pick-both Seeded _ (record { seeded = h }) (record { seeded = kept _ now (l .seeding) h }))
+plan-seeded l t (read now len) h = pick-both Seeded _ (record { seeded = h }) (pick-both Seeded _ (record { seeded = h }) (pick-both Seeded _ (record { seeded = h }) (record { seeded = kept _ now (l .seeding) h })))
 plan-seeded l t (blockingRead len) h = pick-both Seeded _ (record { seeded = h }) (pick-both Seeded _ (record { seeded = h }) (pick-both Seeded _ (record { seeded = h }) (record { seeded = h })))
 
 -- a seeded keeper stays seeded
-pub seeded-stays : (v : View) (c : PublicCall) → v .ledger .seeded ≡ 1 → (stepView v c) .view .ledger .seeded ≡ 1
+pub seeded-stays : (v : View) (c : PublicCall) → v .ledger .seeding .mark ≡ 1 → (stepView v c) .view .ledger .seeding .mark ≡ 1
 unfolding stepView planned decide
 seeded-stays v c h =
-    (pick-both Seeded _ (plan-seeded (v .ledger) (timerOf (v .clocks) (v .firsts) (v .seconds) (deviceOf c)) c h) (record { seeded = h })) .seeded
+    (pick-both Seeded _ (plan-seeded (v .ledger) (timerOf (v .timers) (deviceOf c)) c h) (record { seeded = h })) .seeded

@@ -5,8 +5,10 @@ pub mod Shapes
 pub mod Places
 pub mod Credits
 pub mod Clocks
+pub mod Timers
 pub mod Marks
 pub mod Range
 pub mod PublicCalls
+pub mod Streams
 pub mod Plans
 pub mod Machine

@@ -1,168 +1,95 @@
--- The ledger's fields by the paper's names, and what a call makes of them.
-use mathlib.Core.Bool.{Bool, true, false, _&&_, not}
+-- The ledger's marks, and what a call makes of them.
+use mathlib.Core.Bool.{Bool, _&&_, not}
 use Prim.Native.Nat.{ℕ, _+_, _<_}
 use lib.Dec.{ltb, eqb}
 use Rattle.ledger.specs.Choice.{pick}
 use Rattle.ledger.specs.Clocks.{clockDiff, exceeds}
 use Rattle.ledger.specs.declared.Spot.{Spot}
+use Rattle.ledger.specs.declared.Gauge.{Gauge}
+use Rattle.ledger.specs.declared.Spill.{Spill}
+use Rattle.ledger.specs.declared.Seeding.{Seeding}
 use Rattle.ledger.specs.declared.Ledger.{Ledger}
 
-abbrev pub inputCount : Ledger → ℕ
-inputCount l = l .«input_count»
+-- ---- all zero, unseeded
+abbrev pub freshGauge : Gauge
+freshGauge = record { count = 0; spot = record { at = 0; turn = 0 } }
 
-abbrev pub blockingCount : Ledger → ℕ
-blockingCount l = l .«blocking_count»
-
-abbrev pub inputSpot : Ledger → Spot
-inputSpot l = l .«input_spot»
-
-abbrev pub blockingSpot : Ledger → Spot
-blockingSpot l = l .«blocking_spot»
-
-abbrev pub lastValue : Ledger → ℕ
-lastValue l = l .«last_value»
-
-abbrev pub lastSpill : Ledger → ℕ
-lastSpill l = l .«last_spill»
-
-abbrev pub seedingClock : Ledger → ℕ
-seedingClock l = l .«seeding_clock»
-
--- seeded: the mark is 1. No other number is read as a yes.
-abbrev pub isSeeded : Ledger → Bool
-isSeeded l = eqb (l .seeded) 1
-
--- all zero, unseeded
 abbrev pub freshLedger : Ledger
-freshLedger =
-    record {
-      «input_count» = 0;
-      «blocking_count» = 0;
-      «input_spot» = record { at = 0; turn = 0 };
-      «blocking_spot» = record { at = 0; turn = 0 };
-      «last_value» = 0;
-      tally = 0;
-      «last_spill» = 0;
-      seeded = 0;
-      «seeding_clock» = 0;
-    }
+freshLedger = record { input = freshGauge; blocking = freshGauge; value = 0; spill = record { tally = 0; clock = 0 }; seeding = record { mark = 0; clock = 0 } }
 
--- other counts
-abbrev pub withCounts : ℕ → ℕ → Ledger → Ledger
-withCounts i b l =
-    record {
-      «input_count» = i;
-      «blocking_count» = b;
-      «input_spot» = l .«input_spot»;
-      «blocking_spot» = l .«blocking_spot»;
-      «last_value» = l .«last_value»;
-      tally = l .tally;
-      «last_spill» = l .«last_spill»;
-      seeded = l .seeded;
-      «seeding_clock» = l .«seeding_clock»;
-    }
+-- ---- the ledger with another part
+abbrev pub withInput : Gauge → Ledger → Ledger
+withInput g l = record { input = g; blocking = l .blocking; value = l .value; spill = l .spill; seeding = l .seeding }
 
--- other spots
+abbrev pub withBlocking : Gauge → Ledger → Ledger
+withBlocking g l = record { input = l .input; blocking = g; value = l .value; spill = l .spill; seeding = l .seeding }
+
+abbrev pub withValue : ℕ → Ledger → Ledger
+withValue x l = record { input = l .input; blocking = l .blocking; value = x; spill = l .spill; seeding = l .seeding }
+
+abbrev pub withSpill : Spill → Ledger → Ledger
+withSpill s l = record { input = l .input; blocking = l .blocking; value = l .value; spill = s; seeding = l .seeding }
+
+abbrev pub withSeeding : Seeding → Ledger → Ledger
+withSeeding s l = record { input = l .input; blocking = l .blocking; value = l .value; spill = l .spill; seeding = s }
+
+-- ---- a pool's count becomes c
+abbrev pub counting : ℕ → Gauge → Gauge
+counting c g = record { count = c; spot = g .spot }
+
+abbrev pub inputCounts : ℕ → Ledger → Ledger
+inputCounts c l = withInput (counting c (l .input)) l
+
+abbrev pub blockingCounts : ℕ → Ledger → Ledger
+blockingCounts c l = withBlocking (counting c (l .blocking)) l
+
+-- ---- a pool's next byte goes to a spot
+abbrev pub placing : Spot → Gauge → Gauge
+placing s g = record { count = g .count; spot = s }
+
 abbrev pub withSpots : Spot → Spot → Ledger → Ledger
-withSpots i b l =
-    record {
-      «input_count» = l .«input_count»;
-      «blocking_count» = l .«blocking_count»;
-      «input_spot» = i;
-      «blocking_spot» = b;
-      «last_value» = l .«last_value»;
-      tally = l .tally;
-      «last_spill» = l .«last_spill»;
-      seeded = l .seeded;
-      «seeding_clock» = l .«seeding_clock»;
-    }
+withSpots i b l = withBlocking (placing b (l .blocking)) (withInput (placing i (l .input)) l)
 
+-- ---- what calls keep
 -- the seeding clock becomes `now`; the keeper is seeded for good
+abbrev pub seedingAt : ℕ → Seeding
+seedingAt now = record { mark = 1; clock = now }
+
 abbrev pub seededAt : ℕ → Ledger → Ledger
-seededAt now l =
-    record {
-      «input_count» = l .«input_count»;
-      «blocking_count» = l .«blocking_count»;
-      «input_spot» = l .«input_spot»;
-      «blocking_spot» = l .«blocking_spot»;
-      «last_value» = l .«last_value»;
-      tally = l .tally;
-      «last_spill» = l .«last_spill»;
-      seeded = 1;
-      «seeding_clock» = now;
-    }
+seededAt now l = withSeeding (seedingAt now) l
 
 -- the same after a reseed that took t bytes: if none is taken, nothing changes
 abbrev pub seededBy : ℕ → ℕ → Ledger → Ledger
-seededBy t now l =
-    record {
-      «input_count» = l .«input_count»;
-      «blocking_count» = l .«blocking_count»;
-      «input_spot» = l .«input_spot»;
-      «blocking_spot» = l .«blocking_spot»;
-      «last_value» = l .«last_value»;
-      tally = l .tally;
-      «last_spill» = l .«last_spill»;
-      seeded = pick (eqb t 0) (l .seeded) 1;
-      «seeding_clock» = pick (eqb t 0) (seedingClock l) now;
-    }
+seededBy t now l = withSeeding (pick (eqb t 0) (l .seeding) (seedingAt now)) l
 
 -- on device 0 also the value is kept
 abbrev pub valued : ℕ → ℕ → Ledger → Ledger
-valued device value l =
-    record {
-      «input_count» = l .«input_count»;
-      «blocking_count» = l .«blocking_count»;
-      «input_spot» = l .«input_spot»;
-      «blocking_spot» = l .«blocking_spot»;
-      «last_value» = pick (eqb device 0) value (lastValue l);
-      tally = l .tally;
-      «last_spill» = l .«last_spill»;
-      seeded = l .seeded;
-      «seeding_clock» = l .«seeding_clock»;
-    }
+valued device value l = withValue (pick (eqb device 0) value (l .value)) l
 
 -- the tally grows by one
 abbrev pub tallied : Ledger → Ledger
-tallied l =
-    record {
-      «input_count» = l .«input_count»;
-      «blocking_count» = l .«blocking_count»;
-      «input_spot» = l .«input_spot»;
-      «blocking_spot» = l .«blocking_spot»;
-      «last_value» = l .«last_value»;
-      tally = l .tally + 1;
-      «last_spill» = l .«last_spill»;
-      seeded = l .seeded;
-      «seeding_clock» = l .«seeding_clock»;
-    }
+tallied l = withSpill (record { tally = l .spill .tally + 1; clock = l .spill .clock }) l
 
 -- tally 0, last spill now
 abbrev pub spilled : ℕ → Ledger → Ledger
-spilled now l =
-    record {
-      «input_count» = l .«input_count»;
-      «blocking_count» = l .«blocking_count»;
-      «input_spot» = l .«input_spot»;
-      «blocking_spot» = l .«blocking_spot»;
-      «last_value» = l .«last_value»;
-      tally = 0;
-      «last_spill» = now;
-      seeded = l .seeded;
-      «seeding_clock» = l .«seeding_clock»;
-    }
+spilled now l = withSpill (record { tally = 0; clock = now }) l
+
+-- ---- what calls ask
+-- seeded: the mark is 1. No other number is read as a yes.
+abbrev pub isSeeded : Ledger → Bool
+isSeeded l = eqb (l .seeding .mark) 1
 
 -- an interrupt only stirs the fast pool: its tally is below 64, and now - last spill is at most 1,000
 abbrev pub stays : ℕ → Ledger → Bool
-stays now l = ltb (l .tally + 1) 64 && not (exceeds (clockDiff now (lastSpill l)) 1000)
+stays now l = ltb (l .spill .tally + 1) 64 && not (exceeds (clockDiff now (l .spill .clock)) 1000)
 
 -- now - seeding clock exceeds 300,000
 abbrev pub reseedDue : ℕ → Ledger → Bool
-reseedDue now l = exceeds (clockDiff now (seedingClock l)) 300000
+reseedDue now l = exceeds (clockDiff now (l .seeding .clock)) 300000
 
 -- the blocking count is below 64 and the input count below 512: as a test, and as two facts
-abbrev pub blocks : Ledger → Bool
-blocks l = ltb (blockingCount l) 64 && ltb (inputCount l) 512
+abbrev pub isLow : Ledger → Bool
+isLow l = ltb (l .blocking .count) 64 && ltb (l .input .count) 512
 
 abbrev pub Low : Ledger → Type 0
-Low l = (blockingCount l < 64) × (inputCount l < 512)
+Low l = (l .blocking .count < 64) × (l .input .count < 512)

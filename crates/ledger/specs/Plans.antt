@@ -3,22 +3,22 @@
 use mathlib.Core.Bool.{Bool, true, false, _&&_, not}
 use Prim.Native.Nat.{ℕ, _+_, _-_, _*_, _/_, min, max}
 use lib.Dec.{ltb, leb, eqb}
-use lib.IntN.{pos}
 use Rattle.ledger.specs.Choice.{pick}
+use Rattle.ledger.specs.Sizes.{devices, longest}
 use Rattle.ledger.specs.Numbers.{done, wouldBlock, unseeded, tooLong, noSuchDevice, creditTooHigh, repeated, outOfRange}
 use Rattle.ledger.specs.Shapes.{inputShape, blockingShape, rounds}
 use Rattle.ledger.specs.Places.{blocksOf}
 use Rattle.ledger.specs.Credits.{credited, taken, debited, reseedTakes}
 use Rattle.ledger.specs.Clocks.{nextTimer, eventBits}
-use Rattle.ledger.specs.Marks.{inputCount, blockingCount, lastValue, isSeeded, withCounts, seededBy, valued, tallied, spilled, stays, reseedDue, blocks}
+use Rattle.ledger.specs.Timers.{freshTimer}
+use Rattle.ledger.specs.Streams.{streamBlocks}
+use Rattle.ledger.specs.Marks.{isSeeded, inputCounts, blockingCounts, seededBy, valued, tallied, spilled, stays, reseedDue, isLow}
 use Rattle.ledger.specs.Range.{ledgerInRange, timerInRange}
 use Rattle.ledger.specs.PublicCalls.{PublicCall, event, interrupt, write, seed, read, blockingRead}
 use Rattle.ledger.specs.declared.Ledger.{Ledger}
 use Rattle.ledger.specs.declared.Timer.{Timer}
 use Rattle.ledger.specs.declared.Plan.{Plan}
-
-abbrev pub freshTimer : Timer
-freshTimer = record { clock = 0; d1 = pos 0; d2 = pos 0 }
+use Rattle.ledger.specs.declared.Answer.{Answer}
 
 -- a plan that keeps no timer
 abbrev pub planOf : ℕ → Ledger → Bool → Bool → ℕ → ℕ → ℕ → ℕ → Plan
@@ -26,8 +26,8 @@ planOf number l stirs feeds reseed transfer deliver stream =
     record { number = number; ledger = l; timer = freshTimer; keeps = false; stirs = stirs; feeds = feeds; reseed = reseed; transfer = transfer; deliver = deliver; stream = stream }
 
 -- answer n, and nothing is done
-abbrev pub rest : ℕ → Ledger → Plan
-rest n l = planOf n l false false 0 0 0 0
+abbrev pub idle : ℕ → Ledger → Plan
+idle n l = planOf n l false false 0 0 0 0
 
 -- the bytes of a first seeding: after crediting n > 0 to the input pool, an unseeded keeper with a count of 1,024 or more reseeds
 unfoldable pub firstSeeding : ℕ → ℕ → Ledger → ℕ
@@ -35,12 +35,12 @@ firstSeeding n count l = pick (not (eqb n 0) && (not (isSeeded l) && leb 1024 co
 
 -- the input pool at a count of c, of which a reseed then takes t bytes
 abbrev pub reseeding : ℕ → ℕ → ℕ → Ledger → Ledger
-reseeding now c t l = seededBy t now (withCounts (debited t c) (blockingCount l) l)
+reseeding now c t l = seededBy t now (inputCounts (debited t c) l)
 
 -- the call's bytes are mixed into the input pool and n bits credited; l has the marks that the call keeps
 unfoldable pub feed : ℕ → Bool → ℕ → Ledger → Plan
 feed now stirs n l =
-    let c = credited (inputShape .size) n (inputCount l) in
+    let c = credited (inputShape .size) n (l .input .count) in
     let t = firstSeeding n c l in
     planOf done (reseeding now c t l) stirs true t 0 0 0
 
@@ -52,8 +52,8 @@ keeping t p =
 -- device event: on device 0 a value equal to the last one kept is answer 7
 unfoldable pub planEvent : ℕ → ℕ → ℕ → Timer → Ledger → Plan
 planEvent device now value t l =
-    pick (ltb 15 device) (rest noSuchDevice l)
-    (pick (eqb device 0 && eqb value (lastValue l)) (rest repeated l)
+    pick (leb devices device) (idle noSuchDevice l)
+    (pick (eqb device 0 && eqb value (l .value)) (idle repeated l)
     (keeping (nextTimer now t) (feed now false (eventBits now t) (valued device value l))))
 
 -- interrupt: the fast pool is stirred, and that is all; else it spills and 1 bit is credited
@@ -63,37 +63,37 @@ planInterrupt now l =
 
 -- write: no credit
 unfoldable pub planWrite : ℕ → Ledger → Plan
-planWrite len l = pick (ltb 4096 len) (rest tooLong l) (planOf done l false true 0 0 0 0)
+planWrite len l = pick (ltb longest len) (idle tooLong l) (planOf done l false true 0 0 0 0)
 
 -- seed: the named bits, at most 8 for each byte
 unfoldable pub planSeed : ℕ → ℕ → ℕ → Ledger → Plan
 planSeed now len credit l =
-    pick (ltb 4096 len) (rest tooLong l) (pick (ltb (8 * len) credit) (rest creditTooHigh l) (feed now false credit l))
+    pick (ltb longest len) (idle tooLong l) (pick (ltb (8 * len) credit) (idle creditTooHigh l) (feed now false credit l))
 
 -- generator read: if now - seeding clock exceeds 300,000, reseed first
 unfoldable pub planRead : ℕ → ℕ → Ledger → Plan
 planRead now len l =
-    let t = pick (reseedDue now l) (reseedTakes (inputCount l)) 0 in
-    pick (ltb 4096 len) (rest tooLong l)
-    (pick (eqb len 0) (rest done l)
-    (pick (not (isSeeded l)) (rest unseeded l) (planOf done (reseeding now (inputCount l) t l) false false t 0 0 len)))
+    let t = pick (reseedDue now l) (reseedTakes (l .input .count)) 0 in
+    pick (ltb longest len) (idle tooLong l)
+    (pick (eqb len 0) (idle done l)
+    (pick (not (isSeeded l)) (idle unseeded l) (planOf done (reseeding now (l .input .count) t l) false false t 0 0 len)))
 
 -- the bytes that a blocking read of n brings over from the input pool
 abbrev pub transferred : ℕ → Ledger → ℕ
-transferred n l = pick (ltb (blockingCount l) (64 * n)) (taken (min (max n 8) 128) 8 (inputCount l)) 0
+transferred n l = pick (ltb (l .blocking .count) (64 * n)) (taken (min (max n 8) 128) 8 (l .input .count)) 0
 
 -- the blocking count after t bytes came over, eight bits a byte
 abbrev pub refilled : ℕ → Ledger → ℕ
-refilled t l = credited (blockingShape .size) (8 * t) (blockingCount l)
+refilled t l = credited (blockingShape .size) (8 * t) (l .blocking .count)
 
 -- blocking read
 unfoldable pub planBlockingRead : ℕ → Ledger → Plan
 planBlockingRead n l =
     let t = transferred n l in
     let d = taken n 0 (refilled t l) in
-    pick (ltb 4096 n) (rest tooLong l)
-    (pick (eqb n 0) (rest done l)
-    (pick (blocks l) (rest wouldBlock l) (planOf done (withCounts (debited t (inputCount l)) (debited d (refilled t l)) l) false false 0 t d 0)))
+    pick (ltb longest n) (idle tooLong l)
+    (pick (eqb n 0) (idle done l)
+    (pick (isLow l) (idle wouldBlock l) (planOf done (blockingCounts (debited d (refilled t l)) (inputCounts (debited t (l .input .count)) l)) false false 0 t d 0)))
 
 unfoldable pub planCall : Ledger → Timer → PublicCall → Plan
 planCall l t (event device now value) = planEvent device now value t l
@@ -106,25 +106,13 @@ planCall l t (blockingRead len) = planBlockingRead len l
 -- every call tests 17 first. What is decided from, the ledger and one timer, is tested here; `others` is the test of the rest of the
 -- record, all timers and generator words 0 to 3.
 unfoldable pub decide : Bool → Ledger → Timer → PublicCall → Plan
-decide others l t c = pick (others && (ledgerInRange l && timerInRange t)) (planCall l t c) (rest outOfRange l)
+decide others l t c = pick (others && (ledgerInRange l && timerInRange t)) (planCall l t c) (idle outOfRange l)
 
--- ---- what a plan costs and hands out: the generator's blocks, with one for the key where it needs it, and the extraction blocks
-abbrev pub wholeBlocks : ℕ → ℕ
-wholeBlocks len = (len + 63) / 64
-
--- bytes used of the last block, rounded up to 4
-abbrev pub usedUp : ℕ → ℕ
-usedUp len = (len - 64 * (wholeBlocks len - 1) + 3) / 4 * 4
-
--- u + 32 exceeds 64
-abbrev pub oneMore : ℕ → Bool
-oneMore len = ltb 64 (usedUp len + 32)
-
-abbrev pub streamBlocks : ℕ → ℕ
-streamBlocks len = pick (oneMore len) (wholeBlocks len + 1) (wholeBlocks len)
-
-abbrev pub blocksRun : Plan → ℕ
-blocksRun p = streamBlocks (p .stream)
-
+-- ---- what a plan costs and hands out
+-- the compressions: for each extraction block its whole pool's
 abbrev pub compressionsRun : Plan → ℕ
 compressionsRun p = rounds inputShape * blocksOf (p .reseed) + rounds inputShape * blocksOf (p .transfer) + rounds blockingShape * blocksOf (p .deliver)
+
+-- the answer to a plan that is carried out; a plan without a stream runs no block
+abbrev pub answerOf : Plan → Answer
+answerOf p = record { number = p .number; delivered = p .deliver + p .stream; blocks = streamBlocks (p .stream); compressions = compressionsRun p }

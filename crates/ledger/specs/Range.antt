@@ -5,14 +5,20 @@ use Prim.Native.Nat.{ℕ, _-_, _^_}
 use lib.Dec.{ltb, leb, eqb}
 use lib.IntN.{ℤ, pos, negsuc}
 use Rattle.ledger.specs.Shapes.{Shape, inputShape, blockingShape}
-use Rattle.ledger.specs.Marks.{inputCount, blockingCount, inputSpot, blockingSpot}
-use Rattle.ledger.specs.declared.Spot.{Spot}
+use Rattle.ledger.specs.Timers.{Timers}
+use Rattle.ledger.specs.declared.Gauge.{Gauge}
 use Rattle.ledger.specs.declared.Ledger.{Ledger}
 use Rattle.ledger.specs.declared.Timer.{Timer}
 
+-- what is public of the record, all of which is tested but the clocks: the ledger, the timers, and generator words 0 to 3
+pub record View : Type 0 where
+  pub ledger : Ledger
+  pub timers : Timers
+  pub fixed : List ℕ
+
 -- no count above its S, no position outside its pool, no rotation above 31
-abbrev pub poolInRange : Shape → ℕ → Spot → Bool
-poolInRange sh count s = leb count (sh .size) && (ltb (s .at) (sh .words) && leb (s .turn) 31)
+abbrev pub poolInRange : Shape → Gauge → Bool
+poolInRange sh g = leb (g .count) (sh .size) && (ltb (g .spot .at) (sh .words) && leb (g .spot .turn) 31)
 
 -- from -low to high
 abbrev pub within : ℕ → ℕ → ℤ → Bool
@@ -44,17 +50,19 @@ sameWords (a ∷ ws) (b ∷ bs) = eqb a b && sameWords ws bs
 
 -- the ledger's part: both pools, and no tally above 63
 unfoldable pub ledgerInRange : Ledger → Bool
-ledgerInRange l =
-    poolInRange inputShape (inputCount l) (inputSpot l) && (poolInRange blockingShape (blockingCount l) (blockingSpot l) && leb (l .tally) 63)
+ledgerInRange l = poolInRange inputShape (l .input) && (poolInRange blockingShape (l .blocking) && leb (l .spill .tally) 63)
 
--- a timer's part
+-- a timer's part, and that of all timers
 abbrev pub timerInRange : Timer → Bool
 timerInRange t = firstInRange (t .d1) && secondInRange (t .d2)
 
--- all timers, and generator words 0 to 3
-unfoldable pub restInRange : List ℤ → List ℤ → List ℕ → Bool
-restInRange firsts seconds fixed = every firstInRange firsts && (every secondInRange seconds && sameWords fixed fixedWords)
+abbrev pub timersInRange : Timers → Bool
+timersInRange ts = every firstInRange (ts .firsts) && every secondInRange (ts .seconds)
+
+-- what the ledger does not hold: all timers, and generator words 0 to 3
+unfoldable pub othersInRange : Timers → List ℕ → Bool
+othersInRange ts fixed = timersInRange ts && sameWords fixed fixedWords
 
 -- the whole test
-unfoldable pub inRange : Ledger → List ℤ → List ℤ → List ℕ → Bool
-inRange l firsts seconds fixed = ledgerInRange l && restInRange firsts seconds fixed
+unfoldable pub inRange : View → Bool
+inRange v = ledgerInRange (v .ledger) && othersInRange (v .timers) (v .fixed)

@@ -16,22 +16,36 @@ pub struct Spot {
     pub turn: u32,
 }
 
-// The public half of the record. Counts are in eighths of a bit.
+// What is public of a pool: its count, in eighths of a bit, and where its next byte goes.
+#[repr(C)]
+pub struct Gauge {
+    pub count: u32,
+    pub spot: Spot,
+}
+
+// Interrupts since the last spill, and the clock of that spill.
+#[repr(C)]
+pub struct Spill {
+    pub tally: u32,
+    pub clock: u32,
+}
+
+// A mark of 1: seeded for good. Any other number is read as unseeded: a mark that is damaged must not open the generator. And the clock
+// of the last seeding.
+#[repr(C)]
+pub struct Seeding {
+    pub mark: u32,
+    pub clock: u32,
+}
+
+// The public half of the record, but for the timers: the two pools', device 0's last value, the fast pool's and the generator's.
 #[repr(C)]
 pub struct Ledger {
-    pub input_count: u32,
-    pub blocking_count: u32,
-    pub input_spot: Spot,
-    pub blocking_spot: Spot,
-    // device 0's last value
-    pub last_value: u32,
-    // interrupts since the last spill, and its clock
-    pub tally: u32,
-    pub last_spill: u32,
-    // 1: seeded for good. Any other number is read as unseeded: a mark that is damaged must not open the generator
-    pub seeded: u32,
-    // the clock of the last seeding
-    pub seeding_clock: u32,
+    pub input: Gauge,
+    pub blocking: Gauge,
+    pub value: u32,
+    pub spill: Spill,
+    pub seeding: Seeding,
 }
 
 // A device's timer: its last clock, and the first and second difference of its last event.
@@ -59,4 +73,13 @@ pub struct Plan {
     // bytes handed out, by the blocking pool and by the generator
     pub deliver: u32,
     pub stream: u32,
+}
+
+// The number given back, the bytes delivered, and the work of the call: ChaCha20 blocks and SHA-1 compressions.
+#[repr(C)]
+pub struct Answer {
+    pub number: u32,
+    pub delivered: u32,
+    pub blocks: u32,
+    pub compressions: u32,
 }

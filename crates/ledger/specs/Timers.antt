@@ -1,0 +1,27 @@
+-- The timers of all devices, as one table: for each device its last clock, its d1 and its d2.
+use mathlib.Core.List.{List}
+use Prim.Native.Nat.{ℕ}
+use lib.IntN.{ℤ, pos}
+use lib.ListN.{getD, set, replicate}
+use Rattle.ledger.specs.Sizes.{devices}
+use Rattle.ledger.specs.declared.Timer.{Timer}
+
+pub record Timers : Type 0 where
+  pub clocks : List ℕ
+  pub firsts : List ℤ
+  pub seconds : List ℤ
+
+-- of a device that had no event, and of all of them
+abbrev pub freshTimer : Timer
+freshTimer = record { clock = 0; d1 = pos 0; d2 = pos 0 }
+
+abbrev pub freshTimers : Timers
+freshTimers = record { clocks = replicate devices 0; firsts = replicate devices (pos 0); seconds = replicate devices (pos 0) }
+
+-- a device's timer; where there is no such device a call is refused, whatever stands here
+abbrev pub timerOf : Timers → ℕ → Timer
+timerOf ts device = record { clock = getD (ts .clocks) device 0; d1 = getD (ts .firsts) device (pos 0); d2 = getD (ts .seconds) device (pos 0) }
+
+-- a device's timer is kept
+abbrev pub kept : ℕ → Timer → Timers → Timers
+kept device t ts = record { clocks = set (ts .clocks) device (t .clock); firsts = set (ts .firsts) device (t .d1); seconds = set (ts .seconds) device (t .d2) }
