@@ -9,6 +9,7 @@ use Rattle.ledger.specs.Shapes.{blockingShape}
 use Rattle.ledger.specs.Marks.{Low}
 use Rattle.ledger.specs.PublicCalls.{blockingRead}
 use Rattle.ledger.specs.Plans.{planBlockingRead, planCall, decide}
+use Rattle.ledger.specs.Range.{View}
 use Rattle.ledger.specs.Machine.{planned, planAt, stepView}
 use Rattle.ledger.specs.declared.Plan.{Plan}
 use Rattle.ledger.proofs.Picks.{pick-both}
@@ -32,7 +33,7 @@ streams-none k n =
     pick-both P _ (pick-both P _ refl (pick-both P _ refl (pick-both P _ refl refl))) refl
 
 -- so what it delivers is what the pool gave
-delivers : (k : Keeper) (n : ℕ) → (told k (blockingReadOf n)) .answer .delivered ≡ (stepView (view k) (blockingRead n)) .delivered
+delivers : (k : Keeper) (n : ℕ) → (told k (blockingReadOf n)) .answer .delivered ≡ (stepView (view k) (blockingRead n)) .answer .delivered
 unfolding step obey stepView planned
 delivers k n =
     let c = blockingReadOf n in

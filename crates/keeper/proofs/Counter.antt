@@ -2,7 +2,7 @@
 -- that were run, modulo 2^64.
 use mathlib.Core.Path.{_≡_, refl, sym, ap, ap₂, _∙_}
 use mathlib.Core.Bool.{Bool, true, false}
-use mathlib.Core.List.{List, [], _∷_}
+use mathlib.Core.List.{List, [], _∷_, _++_, append-nil, append-assoc}
 use Prim.Native.Nat.{ℕ, zero, suc, _+_, _-_, _*_, _%_, _^_, _≤_, _<_}
 use native.Mathlib.Omega.{arith}
 use native.Mathlib.Nat.{mod-eq-of-lt}
@@ -13,9 +13,11 @@ use lib.Seq.{getD-set-same, getD-set-other, take-set-le, take-take, length-take-
 use borrow.Author.Tests.{eqb-true, eqb-false, ltb-true, ltb-false}
 use Rattle.words.specs.Bytes.{bytesWords}
 use Rattle.words.proofs.Numbers.{length-bytesWords}
+use Rattle.chacha.specs.Chacha.{chachaBlock, serialize}
 use Rattle.chacha.proofs.Lengths.{length-serialized}
 use Rattle.ledger.specs.Choice.{pick}
-use Rattle.ledger.specs.Plans.{wholeBlocks, usedUp, oneMore, streamBlocks}
+use Rattle.ledger.specs.Streams.{oneMore, streamBlocks, keyFrom}
+use Rattle.ledger.proofs.Picks.{pick-both}
 use Rattle.keeper.specs.Generator.{xorAt, ontoKey, counted, Stream, stream, keyBytes, generated}
 use Rattle.keeper.specs.Work.{counter}
 
@@ -24,12 +26,6 @@ pub record Gen (g : List ℕ) : Type 0 where
   pub long : length g ≡ 16
   pub low : getD g 12 0 < 2 ^ 32
   pub high : getD g 13 0 < 2 ^ 32
-
--- what holds of both holds of the one that is picked
-picked : {A : Type 0} (P : A → Type 0) (t : Bool) (a b : A) → P a → P b → P (pick t a b)
-unfolding pick
-picked P true a b p q = p
-picked P false a b p q = q
 
 -- ---- words xored on from a place
 -- the length stays
@@ -143,7 +139,7 @@ counted-front g = go _ _
 -- a generator stays one
 pub counted-gen : (g : List ℕ) → Gen g → Gen (counted g)
 unfolding counted
-counted-gen g h = go _ _ (omega arith) (picked (λ y. y < 2 ^ 32) _ _ _ (omega arith) (h .high))
+counted-gen g h = go _ _ (omega arith) (pick-both (λ y. y < 2 ^ 32) _ (omega arith) (h .high))
   where
     go : (x y : ℕ) → x < 2 ^ 32 → y < 2 ^ 32 → Gen (set (set g 12 x) 13 y)
     go x y p q =
@@ -201,78 +197,60 @@ unfolding stream
 stream-counter zero g h = omega (arith, h .low, h .high)
 stream-counter (suc n) g h = omega (arith, stream-counter n (counted g) (counted-gen g h), counted-counter g h)
 
+-- one block more: its bytes come last, and the generator counts once more
+pub stream-more : (n : ℕ) (g : List ℕ) → (stream (suc n) g) .bytes ≡ (stream n g) .bytes ++ serialize (chachaBlock ((stream n g) .generator))
+unfolding stream
+stream-more zero g = append-nil (serialize (chachaBlock g))
+stream-more (suc n) g =
+    ap (λ (bs : List ℕ). serialize (chachaBlock g) ++ bs) (stream-more n (counted g)) ∙ sym (append-assoc (serialize (chachaBlock g)) ((stream n (counted g)) .bytes) _)
+
+pub stream-counts : (n : ℕ) (g : List ℕ) → (stream (suc n) g) .generator ≡ counted ((stream n g) .generator)
+unfolding stream
+stream-counts zero g = refl
+stream-counts (suc n) g = stream-counts n (counted g)
+
 -- ---- a read of len bytes
--- the whole blocks, and the generator before its key is changed
-abbrev pub whole : ℕ → List ℕ → Stream
-whole len g = stream (wholeBlocks len) g
+-- its blocks, before the key is changed
+abbrev pub unkeyed : ℕ → List ℕ → Stream
+unkeyed len g = stream (streamBlocks len) g
 
-abbrev pub further : ℕ → List ℕ → Stream
-further len g = stream 1 ((whole len g) .generator)
-
-abbrev pub unkeyed : ℕ → List ℕ → List ℕ
-unkeyed len g = pick (oneMore len) ((further len g) .generator) ((whole len g) .generator)
-
--- what holds after every stream holds before the key is changed
-pub unkeyed-holds : (P : List ℕ → Type 0) → ((n : ℕ) (g : List ℕ) → P g → P ((stream n g) .generator)) → (len : ℕ) (g : List ℕ) → P g → P (unkeyed len g)
-unkeyed-holds P keeps len g h =
-    let one : P ((whole len g) .generator) = keeps (wholeBlocks len) g h in
-    picked P (oneMore len) ((further len g) .generator) ((whole len g) .generator) (keeps 1 ((whole len g) .generator) one) one
-
--- whole blocks are enough
-enough : (len : ℕ) → len ≤ 64 * wholeBlocks len
-enough len = omega arith
+-- they are enough
+enough : (len : ℕ) → len ≤ 64 * streamBlocks len
+enough len = pick-both (λ (n : ℕ). len ≤ 64 * n) (oneMore len) (omega arith) (omega arith)
 
 -- the key takes at most 32 bytes
 pub key-bytes-most : (len : ℕ) (s : Stream) → length (keyBytes len s) ≤ 32
-key-bytes-most len s = go (oneMore len) ((stream 1 (s .generator)) .bytes) (drop (64 * (wholeBlocks len - 1) + usedUp len) (s .bytes))
-  where
-    go : (t : Bool) (a b : List ℕ) → length (pick t (take 32 a) (take 32 b)) ≤ 32
-    go t a b = picked (λ (bs : List ℕ). length bs ≤ 32) t (take 32 a) (take 32 b) (omega (arith, length-take 32 a)) (omega (arith, length-take 32 b))
+key-bytes-most len s = omega (arith, length-take 32 (drop (keyFrom len) (s .bytes)))
 
 -- as many bytes as asked
 pub generated-length : (len : ℕ) (g : List ℕ) → length g ≡ 16 → length ((generated len g) .bytes) ≡ len
 unfolding generated
-generated-length len g h = length-take-le len ((whole len g) .bytes) (omega (arith, enough len, stream-length (wholeBlocks len) g h))
+generated-length len g h = length-take-le len ((unkeyed len g) .bytes) (omega (arith, enough len, stream-length (streamBlocks len) g h))
 
 -- as many blocks as planned
 pub generated-blocks : (len : ℕ) (g : List ℕ) → (generated len g) .blocks ≡ streamBlocks len
 unfolding generated
-generated-blocks len g = rw (stream-blocks (wholeBlocks len) g, stream-blocks 1 ((whole len g) .generator))
+generated-blocks len g = stream-blocks (streamBlocks len) g
 
 -- the length of the generator stays
 pub generated-keeps-length : (len : ℕ) (g : List ℕ) → length ((generated len g) .generator) ≡ length g
 unfolding generated
-generated-keeps-length len g =
-    key-length (keyBytes len (whole len g)) (unkeyed len g)
-    ∙ unkeyed-holds (λ x. length x ≡ length g) (λ n x e. stream-keeps-length n x ∙ e) len g refl
+generated-keeps-length len g = key-length (keyBytes len (unkeyed len g)) _ ∙ stream-keeps-length (streamBlocks len) g
 
 -- the four fixed words stay
 pub generated-top : (len : ℕ) (g : List ℕ) → take 4 ((generated len g) .generator) ≡ take 4 g
 unfolding generated
-generated-top len g =
-    key-top (keyBytes len (whole len g)) (unkeyed len g)
-    ∙ unkeyed-holds (λ x. take 4 x ≡ take 4 g) (λ n x e. stream-top n x ∙ e) len g refl
+generated-top len g = key-top (keyBytes len (unkeyed len g)) _ ∙ stream-top (streamBlocks len) g
 
 -- a generator stays one
 pub generated-gen : (len : ℕ) (g : List ℕ) → Gen g → Gen ((generated len g) .generator)
 unfolding generated
-generated-gen len g h =
-    key-gen (keyBytes len (whole len g)) (unkeyed len g) (key-bytes-most len (whole len g)) (unkeyed-holds Gen stream-gen len g h)
-
--- the counter after n blocks, or after one more
-one-more-counter : (t : Bool) (n : ℕ) (g : List ℕ) → Gen g
-    → counter (pick t ((stream 1 ((stream n g) .generator)) .generator) ((stream n g) .generator)) ≡ (counter g + pick t (n + 1) n) % 2 ^ 64
-unfolding pick
-one-more-counter true n g h =
-    omega (arith, stream-counter 1 ((stream n g) .generator) (stream-gen n g h), stream-counter n g h)
-one-more-counter false n g h = stream-counter n g h
+generated-gen len g h = key-gen (keyBytes len (unkeyed len g)) _ (key-bytes-most len (unkeyed len g)) (stream-gen (streamBlocks len) g h)
 
 -- the counter moves by the blocks that are planned
 pub generated-counter-planned : (len : ℕ) (g : List ℕ) → Gen g → counter ((generated len g) .generator) ≡ (counter g + streamBlocks len) % 2 ^ 64
 unfolding generated
-generated-counter-planned len g h =
-    key-counter (keyBytes len (whole len g)) (unkeyed len g) (key-bytes-most len (whole len g))
-    ∙ one-more-counter (oneMore len) (wholeBlocks len) g h
+generated-counter-planned len g h = key-counter (keyBytes len (unkeyed len g)) _ (key-bytes-most len (unkeyed len g)) ∙ stream-counter (streamBlocks len) g h
 
 -- and that are reported
 pub generated-counter : (len : ℕ) (g : List ℕ) → Gen g → counter ((generated len g) .generator) ≡ (counter g + (generated len g) .blocks) % 2 ^ 64

@@ -9,17 +9,18 @@ use native.Mathlib.Nat.{add-zero}
 use lib.Dec.{ltb}
 use lib.Bits.{bitXor}
 use lib.ListN.{length, getD, set, take, drop, length-set, length-drop}
-use lib.Seq.{getD-set-same, getD-set-other, getD-take, take-all, length-take-le}
+use lib.Seq.{getD-set-same, getD-set-other, getD-take, take-all, length-take-le, drop-append-seam}
 use borrow.Author.Tests.{ltb-false}
 use Rattle.words.specs.Bytes.{bytesWords}
 use Rattle.words.proofs.Numbers.{length-bytesWords-whole}
 use Rattle.chacha.specs.Chacha.{chachaBlock, serialize}
 use Rattle.chacha.proofs.Lengths.{length-serialized}
 use Rattle.ledger.specs.Choice.{pick}
-use Rattle.ledger.specs.Plans.{wholeBlocks, usedUp, oneMore, streamBlocks}
+use Rattle.ledger.specs.Streams.{wholeBlocks, usedUp, oneMore, streamBlocks, keyFrom}
+use Rattle.ledger.proofs.Picks.{pick-both}
 use Rattle.keeper.specs.Generator.{xorAt, ontoKey, counted, Stream, stream, keyBytes, generated}
 use Rattle.keeper.specs.Work.{counter}
-use Rattle.keeper.proofs.Counter.{Gen, xor-before, key-counter, key-gen, stream-length, stream-keeps-length, stream-front, whole, unkeyed, unkeyed-holds, generated-gen, generated-counter, generated-counter-planned}
+use Rattle.keeper.proofs.Counter.{Gen, xor-before, key-counter, key-gen, stream-length, stream-keeps-length, stream-front, stream-more, stream-counts, unkeyed, generated-gen, generated-counter, generated-counter-planned}
 
 -- ---- the counter is not started again
 -- two reads in a row move it by the blocks of both
@@ -80,11 +81,17 @@ even-more n =
     let u : usedUp (64 * suc n) ≡ 64 = omega arith in
     ap (λ (k : ℕ). ltb 64 (k + 32)) u
 
+-- the blocks that meet the length
+abbrev pub met : ℕ → List ℕ → Stream
+met len g = stream (wholeBlocks len) g
+
 -- where a further block is asked for, the key is changed by its first 32 bytes
-pub further-key : (len : ℕ) (g : List ℕ) → oneMore len ≡ true
-    → (generated len g) .generator ≡ ontoKey (take 32 (serialize (chachaBlock ((whole len g) .generator)))) (counted ((whole len g) .generator))
-unfolding generated stream pick
-further-key len g e = rw (e, append-nil)
+pub further-key : (len : ℕ) (g : List ℕ) → length g ≡ 16 → oneMore len ≡ true
+    → (generated len g) .generator ≡ ontoKey (take 32 (serialize (chachaBlock ((met len g) .generator)))) (counted ((met len g) .generator))
+unfolding generated pick
+further-key len g k e =
+    let n : wholeBlocks len + 1 ≡ suc (wholeBlocks len) = omega arith in
+    rw (e, n, stream-more (wholeBlocks len) g, stream-counts (wholeBlocks len) g, ← stream-length (wholeBlocks len) g k, drop-append-seam ((met len g) .bytes) (serialize (chachaBlock ((met len g) .generator)))) refl
 
 -- a read of 64 runs two blocks
 pub even-blocks : streamBlocks 64 ≡ 2
@@ -92,9 +99,9 @@ unfolding pick
 even-blocks = refl
 
 -- and changes the key by the first 32 bytes of the second
-pub even-key : (g : List ℕ) → (generated 64 g) .generator ≡ ontoKey (take 32 (serialize (chachaBlock (counted g)))) (counted (counted g))
+pub even-key : (g : List ℕ) → length g ≡ 16 → (generated 64 g) .generator ≡ ontoKey (take 32 (serialize (chachaBlock (counted g)))) (counted (counted g))
 unfolding stream
-even-key g = further-key 64 g refl
+even-key g h = further-key 64 g h refl
 
 -- ---- a read of 32: one block, of which the first 32 bytes go out and the others onto the key
 -- one block
@@ -104,7 +111,7 @@ half-blocks = refl
 
 -- its first half goes out
 pub half-bytes : (g : List ℕ) → (generated 32 g) .bytes ≡ take 32 (serialize (chachaBlock g))
-unfolding generated stream
+unfolding generated stream pick
 half-bytes g = rw append-nil
 
 -- its second half goes onto the key
@@ -119,30 +126,24 @@ pub generated-none : (g : List ℕ) → generated 0 g ≡ record { bytes = []; g
 unfolding generated stream pick bytesWords xorAt
 generated-none g = refl
 
--- where the key is changed by the last block, 32 bytes of it are left
-left : (len : ℕ) → 1 ≤ len → oneMore len ≡ false → 64 * (wholeBlocks len - 1) + usedUp len + 32 ≤ 64 * wholeBlocks len
-left len h e = omega (arith, ltb-false 64 (usedUp len + 32) e)
+-- the blocks of a read have 32 bytes left for the key ..
+left : (len : ℕ) → 1 ≤ len → keyFrom len + 32 ≤ 64 * streamBlocks len
+unfolding pick
+left len h = go (oneMore len) refl
+  where
+    go : (t : Bool) → oneMore len ≡ t → pick t (64 * wholeBlocks len) (64 * (wholeBlocks len - 1) + usedUp len) + 32 ≤ 64 * pick t (wholeBlocks len + 1) (wholeBlocks len)
+    go true e = omega arith
+    go false e = omega (arith, ltb-false 64 (usedUp len + 32) e)
 
--- the bytes for the key stand past those that are handed out
-pub key-apart : (len : ℕ) → len ≤ 64 * (wholeBlocks len - 1) + usedUp len
-key-apart len = omega arith
+-- .. which stand past those that are handed out
+pub key-apart : (len : ℕ) → len ≤ keyFrom len
+key-apart len = pick-both (λ (n : ℕ). len ≤ n) (oneMore len) (omega arith) (omega arith)
 
 -- 32 bytes for the key
-pub key-bytes-all : (len : ℕ) (g : List ℕ) → 1 ≤ len → length g ≡ 16 → length (keyBytes len (whole len g)) ≡ 32
-unfolding pick
-key-bytes-all len g h k = go (oneMore len) refl
-  where
-    s : Stream
-    s = whole len g
-
-    at : ℕ
-    at = 64 * (wholeBlocks len - 1) + usedUp len
-
-    go : (t : Bool) → oneMore len ≡ t → length (pick t (take 32 ((stream 1 (s .generator)) .bytes)) (take 32 (drop at (s .bytes)))) ≡ 32
-    go true e =
-        length-take-le 32 ((stream 1 (s .generator)) .bytes) (omega (arith, stream-length 1 (s .generator) (stream-keeps-length (wholeBlocks len) g ∙ k)))
-    go false e =
-        length-take-le 32 (drop at (s .bytes)) (omega (arith, length-drop at (s .bytes), stream-length (wholeBlocks len) g k, left len h e))
+pub key-bytes-all : (len : ℕ) (g : List ℕ) → 1 ≤ len → length g ≡ 16 → length (keyBytes len (unkeyed len g)) ≡ 32
+key-bytes-all len g h k =
+    let bs = (unkeyed len g) .bytes in
+    length-take-le 32 (drop (keyFrom len) bs) (omega (arith, length-drop (keyFrom len) bs, stream-length (streamBlocks len) g k, left len h))
 
 -- where the words before the counter are the same, so is each of them
 front-word : (a b : List ℕ) (j : ℕ) → take 12 a ≡ take 12 b → j < 12 → getD a j 0 ≡ getD b j 0
@@ -150,12 +151,12 @@ front-word a b j e h = sym (getD-take 12 a j 0 h) ∙ ap (λ (x : List ℕ). get
 
 -- each of the 8 words of the key is xored with a word of them
 pub key-changed : (len : ℕ) (g : List ℕ) (j : ℕ) → 1 ≤ len → length g ≡ 16 → j < 8
-    → getD ((generated len g) .generator) (4 + j) 0 ≡ bitXor (getD g (4 + j) 0) (getD (bytesWords (keyBytes len (whole len g))) j 0)
+    → getD ((generated len g) .generator) (4 + j) 0 ≡ bitXor (getD g (4 + j) 0) (getD (bytesWords (keyBytes len (unkeyed len g))) j 0)
 unfolding generated
 key-changed len g j h k l =
-    let bs = keyBytes len (whole len g) in
+    let bs = keyBytes len (unkeyed len g) in
+    let x = (unkeyed len g) .generator in
     let n : length (bytesWords bs) ≡ 8 = length-bytesWords-whole bs 8 (key-bytes-all len g h k) in
-    let m : length (unkeyed len g) ≡ 16 = unkeyed-holds (λ x. length x ≡ 16) (λ n x e. stream-keeps-length n x ∙ e) len g k in
-    let f : take 12 (unkeyed len g) ≡ take 12 g = unkeyed-holds (λ x. take 12 x ≡ take 12 g) (λ n x e. stream-front n x ∙ e) len g refl in
-    let w : getD (unkeyed len g) (4 + j) 0 ≡ getD g (4 + j) 0 = front-word (unkeyed len g) g (4 + j) f (omega arith) in
-    xor-inside (unkeyed len g) 4 (bytesWords bs) j (omega arith) (omega arith) ∙ ap (λ (x : ℕ). bitXor x (getD (bytesWords bs) j 0)) w
+    let m : length x ≡ 16 = stream-keeps-length (streamBlocks len) g ∙ k in
+    let w : getD x (4 + j) 0 ≡ getD g (4 + j) 0 = front-word x g (4 + j) (stream-front (streamBlocks len) g) (omega arith) in
+    xor-inside x 4 (bytesWords bs) j (omega arith) (omega arith) ∙ ap (λ (y : ℕ). bitXor y (getD (bytesWords bs) j 0)) w

@@ -9,13 +9,14 @@ use borrow.Author.Tests.{eq-eqb, ne-eqb}
 use Rattle.ledger.specs.Choice.{pick}
 use Rattle.ledger.specs.Shapes.{blockingShape}
 use Rattle.ledger.specs.PublicCalls.{asked}
+use Rattle.ledger.specs.Range.{View}
 use Rattle.ledger.specs.Machine.{planned, planAt, stepView}
 use Rattle.ledger.proofs.Still.{delivered-fits}
 use Rattle.ledger.proofs.Picks.{pick-both}
 use Rattle.pool.specs.Mixing.{mix}
 use Rattle.pool.proofs.Extracted.{extract-length}
 use Rattle.keeper.specs.Generator.{generated}
-use Rattle.keeper.specs.Record.{Outcome, refused, fresh, view, blockingPool, roomAfter, made}
+use Rattle.keeper.specs.Record.{Outcome, refused, finished, fresh, view, blockingPool, roomAfter, made}
 use Rattle.keeper.specs.Calls.{Call, public, deviceEvent, interrupted, written, seededWith, generatorRead, blockingReadOf}
 use Rattle.keeper.specs.Narrative.{eventCall, interruptCall, writeCall, seedCall, generate, readCall, deliver, blockingCall, act, told}
 use Rattle.keeper.specs.Obey.{forTransfer, obey, step}
@@ -41,9 +42,9 @@ act-refuses k (interrupted now number stamp address) = pick-both (Refuses k) _ (
 act-refuses k (written bs) = pick-both (Refuses k) _ (itself k 3) (answered k _ refl)
 act-refuses k (seededWith now bs credit) = pick-both (Refuses k) _ (itself k 3) (pick-both (Refuses k) _ (itself k 5) (answered k _ refl))
 act-refuses k (generatorRead now len) =
-    pick-both (Refuses k) _ (itself k 3) (pick-both (Refuses k) _ (itself k 0) (pick-both (Refuses k) _ (itself k 2) (answered k _ refl)))
+    pick-both (Refuses k) _ (itself k 3) (pick-both (Refuses k) _ (answered k _ refl) (pick-both (Refuses k) _ (itself k 2) (answered k _ refl)))
 act-refuses k (blockingReadOf n) =
-    pick-both (Refuses k) _ (itself k 3) (pick-both (Refuses k) _ (itself k 0) (pick-both (Refuses k) _ (itself k 1) (answered k _ refl)))
+    pick-both (Refuses k) _ (itself k 3) (pick-both (Refuses k) _ (answered k _ refl) (pick-both (Refuses k) _ (itself k 1) (answered k _ refl)))
 
 -- DEMAND 1, for the six calls: record, answer and bytes
 pub demand-1 : (k : Keeper) (c : Call) → ((told k c) .answer .number ≡ 0 → ⊥) → told k c ≡ refused ((told k c) .answer .number) k
@@ -55,7 +56,7 @@ pub room-stays : (n : ℕ) (k : Keeper) (room : List ℕ) → roomAfter room ((r
 room-stays n k room = refl
 
 -- a making from 48 bytes answers 0 and gives the fresh keeper; from any other number of bytes it answers 6 and leaves the record
-pub making-48 : (start : List ℕ) (k : Keeper) → length start ≡ 48 → made start k ≡ refused 0 (fresh start)
+pub making-48 : (start : List ℕ) (k : Keeper) → length start ≡ 48 → made start k ≡ finished (fresh start, 0)
 unfolding made pick
 making-48 start k h = rw (eq-eqb (length start) 48 h)
 

@@ -13,9 +13,10 @@ use Rattle.ledger.specs.Choice.{pick}
 use Rattle.ledger.specs.Shapes.{inputShape, blockingShape}
 use Rattle.ledger.specs.Credits.{credited, taken, debited, reseedTakes}
 use Rattle.ledger.specs.Clocks.{nextTimer, eventBits}
-use Rattle.ledger.specs.Marks.{inputCount, blockingCount, blockingSpot, isSeeded, withCounts, withSpots, valued, tallied, spilled, stays, reseedDue}
+use Rattle.ledger.specs.Marks.{isSeeded, inputCounts, blockingCounts, withSpots, valued, tallied, spilled, stays, reseedDue}
 use Rattle.ledger.specs.PublicCalls.{deviceOf}
-use Rattle.ledger.specs.Plans.{freshTimer, planOf, rest, firstSeeding, reseeding, feed, keeping, planEvent, planInterrupt, planWrite, planSeed, planRead, transferred, refilled, planBlockingRead, planCall}
+use Rattle.ledger.specs.Timers.{freshTimer, kept}
+use Rattle.ledger.specs.Plans.{planOf, idle, firstSeeding, reseeding, feed, keeping, planEvent, planInterrupt, planWrite, planSeed, planRead, transferred, refilled, planBlockingRead, planCall}
 use Rattle.ledger.proofs.InRange.{plan-at-is}
 use Rattle.ledger.specs.declared.Ledger.{Ledger}
 use Rattle.ledger.specs.declared.Timer.{Timer}
@@ -24,15 +25,15 @@ use Rattle.pool.specs.Mixing.{Pool, mix}
 use Rattle.pool.specs.Extracting.{Extract, extract, extractBlocks}
 use Rattle.keeper.specs.FastPool.{stirred}
 use Rattle.keeper.specs.Generator.{xorAt, ontoKey, Stream, stream, generated}
-use Rattle.keeper.specs.Record.{inputPool, blockingPool, deviceTimer, withLedger, withInput, withBlocking, withFast, withGenerator, withTimer, view, fine, Outcome, refused}
+use Rattle.keeper.specs.Record.{timersOf, deviceTimer, inputPool, blockingPool, keeperOf, withLedger, withTimer, withInputPool, withBlockingPool, withFast, withGenerator, view, fine, Outcome, refused, finished}
 use Rattle.keeper.specs.Calls.{Call, deviceEvent, interrupted, written, seededWith, generatorRead, blockingReadOf, public, eventBytes, stirredBy, payload}
-use Rattle.keeper.specs.Narrative.{Run, finished, mixInput, recount, debitInput, rekey, reseed, creditInput, eventCall, interruptCall, writeCall, seedCall, generate, readCall, transfer, deliver, blockingCall, act, told}
+use Rattle.keeper.specs.Narrative.{mixInput, recountInput, recountBlocking, debitInput, rekey, reseed, creditInput, eventCall, interruptCall, writeCall, seedCall, generate, readCall, transfer, deliver, blockingCall, act, told}
 use Rattle.keeper.specs.Obey.{obey, step}
 use Rattle.keeper.specs.declared.Keeper.{Keeper}
-use Rattle.keeper.specs.declared.Answer.{Answer}
+use Rattle.ledger.specs.declared.Answer.{Answer}
 
--- a plan to rest is a refusal
-pub rests : (n : ℕ) (c : Call) (k : Keeper) → refused n k ≡ obey c (rest n (k .ledger)) k
+-- a plan that does nothing is a refusal
+pub rests : (n : ℕ) (c : Call) (k : Keeper) → refused n k ≡ obey c (idle n (k .ledger)) k
 unfolding obey pick mix extractBlocks generated stream xorAt bytesWords
 rests n c k = refl
 
@@ -49,22 +50,22 @@ form now k cc t =
     let e = extract inputShape t (inputPool k) in
     record {
       keeper =
-          withLedger (withSpots (e .pool .spot) (blockingSpot (k .ledger)) (reseeding now cc t (k .ledger)))
-          (withGenerator (ontoKey (e .bytes) (k .generator)) (withInput (e .pool) k));
+          withLedger (withSpots (e .pool .spot) (k .ledger .blocking .spot) (reseeding now cc t (k .ledger)))
+          (withGenerator (ontoKey (e .bytes) (k .generator)) (withInputPool (e .pool) k));
       answer = record { number = 0; delivered = 0; blocks = 0; compressions = e .runs };
       bytes = [];
     }
 
 -- at a count of cc with nothing taken
-unmoved : (now : ℕ) (k : Keeper) (cc : ℕ) → finished (recount cc (blockingCount (k .ledger)) k, 0) ≡ form now k cc 0
+unmoved : (now : ℕ) (k : Keeper) (cc : ℕ) → finished (recountInput cc k, 0) ≡ form now k cc 0
 unfolding form pick extractBlocks xorAt bytesWords
 unmoved now k cc =
     let e : cc ≡ cc - 64 * 0 = omega arith in
-    ap (λ (n : ℕ). finished (recount n (blockingCount (k .ledger)) k, 0)) e
+    ap (λ (n : ℕ). finished (recountInput n k, 0)) e
 
 -- a reseed of t bytes from a count of cc, in the paper's order
 reseeded : (now : ℕ) (k : Keeper) (cc t : ℕ)
-    → let k₁ = recount cc (blockingCount (k .ledger)) k in
+    → let k₁ = recountInput cc k in
     let e = extract inputShape t (inputPool k₁) in
     finished (pick (eqb t 0) (k₁, 0) (rekey now e (debitInput t k₁), e .runs)) ≡ form now k cc t
 unfolding pick
@@ -72,13 +73,13 @@ reseeded now k cc zero = unmoved now k cc
 reseeded now k cc (suc n) = rw (ne-eqb (suc n) 0 (λ e. omega arith)) (unfold form in rw (ne-eqb (suc n) 0 (λ e. omega arith)))
 
 -- the two ways to tell whether a reseed comes
-credits : (now : ℕ) (k : Keeper) (a s l : Bool) (cc t : ℕ) → (a ≡ true → cc ≡ inputCount (k .ledger))
-    → let k₁ = recount cc (blockingCount (k .ledger)) k in
+credits : (now : ℕ) (k : Keeper) (a s l : Bool) (cc t : ℕ) → (a ≡ true → cc ≡ k .ledger .input .count)
+    → let k₁ = recountInput cc k in
     let e = extract inputShape t (inputPool k₁) in
     finished (pick a (k, 0) (pick (s && l) (pick (eqb t 0) (k₁, 0) (rekey now e (debitInput t k₁), e .runs)) (k₁, 0)))
     ≡ form now k cc (pick (not a && (s && l)) t 0)
 unfolding pick
-credits now k true s l cc t h = ap (λ (n : ℕ). finished (recount n (blockingCount (k .ledger)) k, 0)) (sym (h refl)) ∙ unmoved now k cc
+credits now k true s l cc t h = ap (λ (n : ℕ). finished (recountInput n k, 0)) (sym (h refl)) ∙ unmoved now k cc
 credits now k false true true cc t h = reseeded now k cc t
 credits now k false true false cc t h = unmoved now k cc
 credits now k false false l cc t h = unmoved now k cc
@@ -92,16 +93,7 @@ base : Bool → Bool → Timer → Ledger → Call → Keeper → Keeper
 base keeps stirs t l c k =
     let f = pick stirs (stirredBy c (k .fast)) (k .fast) in
     let i = mix inputShape (inputPool k) (payload c f) in
-    record {
-      ledger = withSpots (i .spot) (blockingSpot (k .ledger)) l;
-      clocks = pick keeps (set (k .clocks) (deviceOf (public c)) (t .clock)) (k .clocks);
-      firsts = pick keeps (set (k .firsts) (deviceOf (public c)) (t .d1)) (k .firsts);
-      seconds = pick keeps (set (k .seconds) (deviceOf (public c)) (t .d2)) (k .seconds);
-      input = i .words;
-      blocking = k .blocking;
-      fast = f;
-      generator = k .generator;
-    }
+    keeperOf (withSpots (i .spot) (k .ledger .blocking .spot) l) (pick keeps (kept (deviceOf (public c)) t (timersOf k)) (timersOf k)) (i .words) (k .blocking) f (k .generator)
 
 -- a plan that feeds
 feeding : ℕ → Bool → Bool → Timer → Ledger → ℕ → ℕ → Plan
@@ -117,19 +109,19 @@ formed now keeps stirs tm l cc t c k =
     let z : e .runs ≡ e .runs + 0 + 0 = omega arith in
     ap (λ (n : ℕ). record {
       keeper =
-          withLedger (withSpots (e .pool .spot) (blockingSpot (b .ledger)) (reseeding now cc t (b .ledger)))
-          (withGenerator (ontoKey (e .bytes) (b .generator)) (withInput (e .pool) b));
+          withLedger (withSpots (e .pool .spot) (b .ledger .blocking .spot) (reseeding now cc t (b .ledger)))
+          (withGenerator (ontoKey (e .bytes) (b .generator)) (withInputPool (e .pool) b));
       answer = record { number = 0; delivered = 0; blocks = 0; compressions = n };
       bytes = [];
     }) z
 
 feeds : (now n : ℕ) (keeps stirs : Bool) (tm : Timer) (l : Ledger) (c : Call) (k : Keeper)
-    → let cc = credited (inputShape .size) n (inputCount l) in
+    → let cc = credited (inputShape .size) n (l .input .count) in
     finished (creditInput now n (base keeps stirs tm l c k)) ≡ obey c (feeding now keeps stirs tm l cc (firstSeeding n cc l)) k
 unfolding creditInput reseed firstSeeding base
 feeds now n keeps stirs tm l c k =
-    let cc = credited (inputShape .size) n (inputCount l) in
-    credits now (base keeps stirs tm l c k) (eqb n 0) (not (isSeeded l)) (leb 1024 cc) cc (reseedTakes cc) (λ h. credited-none (inputShape .size) n (inputCount l) h)
+    let cc = credited (inputShape .size) n (l .input .count) in
+    credits now (base keeps stirs tm l c k) (eqb n 0) (not (isSeeded l)) (leb 1024 cc) cc (reseedTakes cc) (λ h. credited-none (inputShape .size) n (l .input .count) h)
     ∙ formed now keeps stirs tm l cc (firstSeeding n cc l) c k
 
 -- ---- the calls, one by one
@@ -193,11 +185,11 @@ same-seed now bs credit k =
 reads : (now len t : ℕ) (c : Call) (k : Keeper)
     → let e = extract inputShape t (inputPool k) in
     generate len (pick (eqb t 0) (k, 0) (rekey now e (debitInput t k), e .runs))
-    ≡ obey c (planOf 0 (reseeding now (inputCount (k .ledger)) t (k .ledger)) false false t 0 0 len) k
+    ≡ obey c (planOf 0 (reseeding now (k .ledger .input .count) t (k .ledger)) false false t 0 0 len) k
 unfolding obey pick generate mix extractBlocks xorAt bytesWords
 reads now len zero c k =
-    let e : inputCount (k .ledger) ≡ inputCount (k .ledger) - 64 * 0 = omega arith in
-    ap (λ (n : ℕ). generate len (recount n (blockingCount (k .ledger)) k, 0)) e
+    let e : k .ledger .input .count ≡ k .ledger .input .count - 64 * 0 = omega arith in
+    ap (λ (n : ℕ). generate len (recountInput n k, 0)) e
 reads now len (suc n) c k =
     let e = extract inputShape (suc n) (inputPool k) in
     let z : e .runs ≡ e .runs + 0 + 0 = omega arith in
@@ -205,9 +197,9 @@ reads now len (suc n) c k =
 
 reads-if : (now len : ℕ) (due : Bool) (c : Call) (k : Keeper)
     → generate len (pick due (reseed now k) (k, 0))
-    ≡ obey c (planOf 0 (reseeding now (inputCount (k .ledger)) (pick due (reseedTakes (inputCount (k .ledger))) 0) (k .ledger)) false false (pick due (reseedTakes (inputCount (k .ledger))) 0) 0 0 len) k
+    ≡ obey c (planOf 0 (reseeding now (k .ledger .input .count) (pick due (reseedTakes (k .ledger .input .count)) 0) (k .ledger)) false false (pick due (reseedTakes (k .ledger .input .count)) 0) 0 0 len) k
 unfolding reseed pick
-reads-if now len true c k = reads now len (reseedTakes (inputCount (k .ledger))) c k
+reads-if now len true c k = reads now len (reseedTakes (k .ledger .input .count)) c k
 reads-if now len false c k = reads now len 0 c k
 
 same-read : (now len : ℕ) (k : Keeper) → readCall now len k ≡ obey (generatorRead now len) (planRead now len (k .ledger)) k
@@ -219,14 +211,14 @@ same-read now len k =
 -- t bytes brought over, then what is taken for n delivered
 draws : (n t : ℕ) (c : Call) (k : Keeper)
     → let d = taken n 0 (refilled t (k .ledger)) in
-    deliver n (transfer t k) ≡ obey c (planOf 0 (withCounts (debited t (inputCount (k .ledger))) (debited d (refilled t (k .ledger))) (k .ledger)) false false 0 t d 0) k
+    deliver n (transfer t k) ≡ obey c (planOf 0 (blockingCounts (debited d (refilled t (k .ledger))) (inputCounts (debited t (k .ledger .input .count)) (k .ledger))) false false 0 t d 0) k
 unfolding deliver transfer obey pick mix extractBlocks generated stream xorAt bytesWords
 draws n t c k =
     let d = taken n 0 (refilled t (k .ledger)) in
     let x = extract inputShape t (inputPool k) in
     let y = extract blockingShape d (mix blockingShape (blockingPool k) (x .bytes)) in
     let z : x .runs + y .runs ≡ 0 + x .runs + y .runs = omega arith in
-    let k₁ = withBlocking (y .pool) (withInput (x .pool) (recount (debited t (inputCount (k .ledger))) (debited d (refilled t (k .ledger))) k)) in
+    let k₁ = withBlockingPool (y .pool) (withInputPool (x .pool) (recountBlocking (debited d (refilled t (k .ledger))) (recountInput (debited t (k .ledger .input .count)) k))) in
     ap₂ (λ (m : ℕ) (bs : List ℕ). record { keeper = k₁; answer = record { number = 0; delivered = length bs; blocks = 0; compressions = m }; bytes = bs }) z (sym (append-nil (y .bytes)))
 
 same-blocking : (n : ℕ) (k : Keeper) → blockingCall n k ≡ obey (blockingReadOf n) (planBlockingRead n (k .ledger)) k

@@ -9,10 +9,12 @@ use Rattle.words.specs.Bytes.{wordsBytes}
 use Rattle.ledger.specs.Choice.{pick}
 use Rattle.ledger.specs.Shapes.{Shape, inputShape, blockingShape}
 use Rattle.ledger.specs.Places.{moved, extractedFrom}
-use Rattle.ledger.specs.Marks.{inputSpot, blockingSpot, withSpots}
+use Rattle.ledger.specs.Marks.{withSpots}
 use Rattle.ledger.specs.PublicCalls.{PublicCall, brings, deviceOf}
-use Rattle.ledger.specs.Plans.{streamBlocks, compressionsRun}
-use Rattle.ledger.specs.Machine.{View, Shown, kept, inputMoved, blockingMoved, planned, planAt, stepView}
+use Rattle.ledger.specs.Streams.{streamBlocks}
+use Rattle.ledger.specs.Plans.{compressionsRun}
+use Rattle.ledger.specs.Range.{View}
+use Rattle.ledger.specs.Machine.{Shown, timersAfter, inputMoved, blockingMoved, planned, planAt, stepView}
 use Rattle.ledger.specs.declared.Plan.{Plan}
 use Rattle.ledger.specs.declared.Spot.{Spot}
 use Rattle.pool.specs.Mixing.{Pool, mix}
@@ -20,7 +22,7 @@ use Rattle.pool.specs.Extracting.{extract}
 use Rattle.pool.proofs.Extracted.{mix-spot, extract-spot, extract-length, extract-runs}
 use Rattle.keeper.specs.FastPool.{stirred}
 use Rattle.keeper.specs.Generator.{ontoKey, generated}
-use Rattle.keeper.specs.Record.{inputPool, blockingPool, view, Outcome}
+use Rattle.keeper.specs.Record.{timersOf, inputPool, blockingPool, view, Outcome}
 use Rattle.keeper.specs.Calls.{Call, deviceEvent, interrupted, written, seededWith, generatorRead, blockingReadOf, public, stirredBy, payload}
 use Rattle.keeper.specs.Narrative.{told}
 use Rattle.keeper.specs.Obey.{obey, step}
@@ -88,18 +90,8 @@ obey-shadow c p k w =
     let runs = ap₂ _+_ (ap₂ _+_ (extract-runs inputShape (p .reseed) i) (extract-runs inputShape (p .transfer) (r .pool))) (extract-runs blockingShape (p .deliver) b) in
     let made = generated-blocks (p .stream) x in
     λ j. record {
-      view =
-          record {
-            ledger = withSpots (into j) (out j) (p .ledger);
-            clocks = kept p (deviceOf (public c)) (p .timer .clock) (k .clocks);
-            firsts = kept p (deviceOf (public c)) (p .timer .d1) (k .firsts);
-            seconds = kept p (deviceOf (public c)) (p .timer .d2) (k .seconds);
-            fixed = top j;
-          };
-      number = p .number;
-      delivered = given j;
-      blocks = made j;
-      compressions = runs j;
+      view = record { ledger = withSpots (into j) (out j) (p .ledger); timers = timersAfter (deviceOf (public c)) p (timersOf k); fixed = top j };
+      answer = record { number = p .number; delivered = given j; blocks = made j; compressions = runs j };
     }
 
 -- a call shows what the public machine gives
@@ -117,9 +109,9 @@ pub view-is : (k : Keeper) (c : Call) → Whole k → view ((told k c) .keeper) 
 view-is k c w = ap (λ (s : Shown). s .view) (shadow k c w)
 
 -- the number does not ask for the lengths
-pub number-is : (k : Keeper) (c : Call) → (told k c) .answer .number ≡ (stepView (view k) (public c)) .number
+pub number-is : (k : Keeper) (c : Call) → (told k c) .answer .number ≡ (stepView (view k) (public c)) .answer .number
 unfolding step obey stepView planned
 number-is k c = ap (λ (o : Outcome). o .answer .number) (same k c)
 
-pub delivered-is : (k : Keeper) (c : Call) → Whole k → (told k c) .answer .delivered ≡ (stepView (view k) (public c)) .delivered
-delivered-is k c w = ap (λ (s : Shown). s .delivered) (shadow k c w)
+pub delivered-is : (k : Keeper) (c : Call) → Whole k → (told k c) .answer .delivered ≡ (stepView (view k) (public c)) .answer .delivered
+delivered-is k c w = ap (λ (s : Shown). s .answer .delivered) (shadow k c w)

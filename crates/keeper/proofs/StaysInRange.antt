@@ -5,7 +5,8 @@ use mathlib.Core.List.{List, [], _∷_}
 use Prim.Native.Nat.{ℕ, _≤_}
 use native.Mathlib.Omega.{arith}
 use lib.ListN.{length}
-use Rattle.ledger.specs.Machine.{View, Shown, stepView}
+use Rattle.ledger.specs.Range.{View}
+use Rattle.ledger.specs.Machine.{Shown, stepView}
 use Rattle.ledger.proofs.InRange.{Fine, fine-in-range, step-fine, fresh-fine, fine-low}
 use Rattle.ledger.proofs.InRange.{fine as view-fine}
 use Rattle.keeper.specs.Record.{fresh, view, fine, Outcome}

@@ -11,11 +11,12 @@ use Rattle.words.proofs.Numbers.{bytesWords-lt}
 use Rattle.ledger.specs.Choice.{pick}
 use Rattle.ledger.specs.Shapes.{Shape, inputShape, blockingShape}
 use Rattle.ledger.specs.Places.{moved, movedBlocks, blocksOf}
-use Rattle.ledger.specs.Marks.{inputCount, inputSpot, blockingSpot, reseedDue}
+use Rattle.ledger.specs.Marks.{reseedDue}
 use Rattle.ledger.specs.PublicCalls.{PublicCall, event, interrupt, write, seed, read, blockingRead, brings}
 use Rattle.ledger.specs.Credits.{reseedTakes}
 use Rattle.ledger.specs.Plans.{firstSeeding, feed, planEvent, planInterrupt, planWrite, planSeed, planRead, planBlockingRead, planCall, decide}
-use Rattle.ledger.specs.Machine.{View, Shown, planAt, inputMoved, blockingMoved, planned, stepView}
+use Rattle.ledger.specs.Range.{View}
+use Rattle.ledger.specs.Machine.{Shown, planAt, inputMoved, blockingMoved, planned, stepView}
 use Rattle.ledger.specs.declared.Ledger.{Ledger}
 use Rattle.ledger.specs.declared.Timer.{Timer}
 use Rattle.ledger.specs.declared.Plan.{Plan}
@@ -118,9 +119,9 @@ worked k c w g =
     let p = planAt (view k) (public c) in
     record {
       blocks = blocks-real k c g;
-      input = ap (λ (u : View). inputSpot (u .ledger)) (view-is k c w) ∙ blocks-add inputShape (blocksOf (p .reseed)) (blocksOf (p .transfer)) _;
-      blocking = ap (λ (u : View). blockingSpot (u .ledger)) (view-is k c w);
-      compressions = ap (λ (s : Shown). s .compressions) (shadow k c w) ∙ omega arith;
+      input = ap (λ (u : View). u .ledger .input .spot) (view-is k c w) ∙ blocks-add inputShape (blocksOf (p .reseed)) (blocksOf (p .transfer)) _;
+      blocking = ap (λ (u : View). u .ledger .blocking .spot) (view-is k c w);
+      compressions = ap (λ (s : Shown). s .answer .compressions) (shadow k c w) ∙ omega arith;
     }
 
 -- ---- any calls

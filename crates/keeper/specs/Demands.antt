@@ -1,6 +1,6 @@
 -- What the three demands speak of: a run of calls, and what two runs must show alike.
 use mathlib.Core.Path.{_≡_}
-use mathlib.Core.List.{List, [], _∷_}
+use mathlib.Core.List.{List, [], _∷_, map}
 use Rattle.ledger.specs.Machine.{Shown}
 use Rattle.keeper.specs.Record.{view, Outcome}
 use Rattle.keeper.specs.Calls.{Call}
@@ -17,28 +17,12 @@ unfoldable pub keeperAfter : Keeper → List Call → Keeper
 keeperAfter k [] = k
 keeperAfter k (c ∷ cs) = keeperAfter ((told k c) .keeper) cs
 
--- Alike: all but the words of the pools, of the fast pool and of the generator, and the bytes handed out. The ledger has the
--- counts, the positions, device 0's last value, the tally, the last spill, the seeded mark and the seeding clock; the answer has
--- its number, the delivered length and the work.
-pub record Alike (a b : Outcome) : Type 0 where
-  pub ledger : a .keeper .ledger ≡ b .keeper .ledger
-  pub clocks : a .keeper .clocks ≡ b .keeper .clocks
-  pub firsts : a .keeper .firsts ≡ b .keeper .firsts
-  pub seconds : a .keeper .seconds ≡ b .keeper .seconds
-  pub answer : a .answer ≡ b .answer
-
--- alike after each call
-pub data AllAlike : List Outcome → List Outcome → Type 0 where
-  none : AllAlike [] []
-  also : {a b : Outcome} {xs ys : List Outcome} → Alike a b → AllAlike xs ys → AllAlike (a ∷ xs) (b ∷ ys)
-
--- what an outcome shows, as the public machine has it
+-- what an outcome shows: the ledger with the counts, the positions, device 0's last value, the tally, the last spill, the seeded mark and
+-- the seeding clock; the timers; generator words 0 to 3; and the answer with its number, the delivered length and the work. That is all
+-- but the words of the pools, of the fast pool and of the generator, and the bytes handed out.
 abbrev pub shown : Outcome → Shown
-shown o =
-    record {
-      view = view (o .keeper);
-      number = o .answer .number;
-      delivered = o .answer .delivered;
-      blocks = o .answer .blocks;
-      compressions = o .answer .compressions;
-    }
+shown o = record { view = view (o .keeper); answer = o .answer }
+
+-- two runs are alike where they show the same after each call
+abbrev pub Alike : List Outcome → List Outcome → Type 0
+Alike xs ys = map shown xs ≡ map shown ys

@@ -1,5 +1,5 @@
 -- The ChaCha20 generator: 16 words, of which 4 to 11 are the key and 12 and 13 the counter.
-use Prim.Native.Nat.{ℕ, zero, suc, _+_, _-_, _*_}
+use Prim.Native.Nat.{ℕ, zero, suc}
 use mathlib.Core.List.{List, [], _∷_, _++_}
 use lib.Dec.{eqb}
 use lib.Bits.{bitXor}
@@ -8,7 +8,7 @@ use Rattle.words.specs.Words.{add}
 use Rattle.words.specs.Bytes.{bytesWords}
 use Rattle.chacha.specs.Chacha.{chachaBlock, serialize}
 use Rattle.ledger.specs.Choice.{pick}
-use Rattle.ledger.specs.Plans.{wholeBlocks, usedUp, oneMore}
+use Rattle.ledger.specs.Streams.{streamBlocks, keyFrom}
 
 -- words xored onto the words from i on
 unfoldable pub xorAt : List ℕ → ℕ → List ℕ → List ℕ
@@ -38,18 +38,12 @@ stream (suc n) g =
     let s = stream n (counted g) in
     record { bytes = serialize (chachaBlock g) ++ s .bytes; generator = s .generator; blocks = suc (s .blocks) }
 
--- the 8 words for the key: of the last block of a read of len bytes, from byte u; or of a further block, from byte 0
+-- the 8 words for the key
 abbrev pub keyBytes : ℕ → Stream → List ℕ
-keyBytes len s =
-    pick (oneMore len) (take 32 ((stream 1 (s .generator)) .bytes)) (take 32 (drop (64 * (wholeBlocks len - 1) + usedUp len) (s .bytes)))
+keyBytes len s = take 32 (drop (keyFrom len) (s .bytes))
 
--- a read of len bytes: blocks until the length is met; a further one where the last has no 32 bytes left past u; the key changed
+-- a read of len bytes: its blocks; the first len bytes go out, and the 32 that lie past them for the key change it
 unfoldable pub generated : ℕ → List ℕ → Stream
 generated len g =
-    let s = stream (wholeBlocks len) g in
-    let t = stream 1 (s .generator) in
-    record {
-      bytes = take len (s .bytes);
-      generator = ontoKey (keyBytes len s) (pick (oneMore len) (t .generator) (s .generator));
-      blocks = pick (oneMore len) (s .blocks + t .blocks) (s .blocks);
-    }
+    let s = stream (streamBlocks len) g in
+    record { bytes = take len (s .bytes); generator = ontoKey (keyBytes len s) (s .generator); blocks = s .blocks }

@@ -6,27 +6,20 @@ use lib.Dec.{ltb, leb, eqb}
 use lib.ListN.{length}
 use Rattle.words.specs.Bytes.{wordsBytes}
 use Rattle.ledger.specs.Choice.{pick}
+use Rattle.ledger.specs.Sizes.{devices, longest}
 use Rattle.ledger.specs.Numbers.{done, wouldBlock, unseeded, tooLong, noSuchDevice, creditTooHigh, repeated, outOfRange}
 use Rattle.ledger.specs.Shapes.{inputShape, blockingShape}
 use Rattle.ledger.specs.Credits.{credited, taken, debited, reseedTakes}
 use Rattle.ledger.specs.Clocks.{nextTimer, eventBits}
-use Rattle.ledger.specs.Marks.{inputCount, blockingCount, lastValue, isSeeded, withCounts, seededAt, valued, tallied, spilled, stays, reseedDue, blocks}
+use Rattle.ledger.specs.Marks.{isSeeded, inputCounts, blockingCounts, seededAt, valued, tallied, spilled, stays, reseedDue, isLow}
 use Rattle.ledger.specs.declared.Ledger.{Ledger}
 use Rattle.pool.specs.Mixing.{Pool, mix}
 use Rattle.pool.specs.Extracting.{Extract, extract}
 use Rattle.keeper.specs.FastPool.{stirred}
 use Rattle.keeper.specs.Generator.{ontoKey, Stream, generated}
-use Rattle.keeper.specs.Record.{inputPool, blockingPool, deviceTimer, withLedger, withInput, withBlocking, withFast, withGenerator, withTimer, fine, Outcome, refused}
+use Rattle.keeper.specs.Record.{inputPool, blockingPool, deviceTimer, withLedger, withTimer, withInputPool, withBlockingPool, withFast, withGenerator, fine, Outcome, refused, Run, finished}
 use Rattle.keeper.specs.Calls.{Call, deviceEvent, interrupted, written, seededWith, generatorRead, blockingReadOf, eventBytes}
 use Rattle.keeper.specs.declared.Keeper.{Keeper}
-use Rattle.keeper.specs.declared.Answer.{Answer}
-
--- a keeper, and the compressions run so far
-abbrev pub Run : Type 0
-Run = Keeper × ℕ
-
-abbrev pub finished : Run → Outcome
-finished w = record { keeper = w .0; answer = record { number = done; delivered = 0; blocks = 0; compressions = w .1 }; bytes = [] }
 
 -- ---- steps that several calls share
 -- the ledger's marks are changed
@@ -34,32 +27,35 @@ abbrev pub marking : (Ledger → Ledger) → Keeper → Keeper
 marking f k = withLedger (f (k .ledger)) k
 
 abbrev pub mixInput : List ℕ → Keeper → Keeper
-mixInput bs k = withInput (mix inputShape (inputPool k) bs) k
+mixInput bs k = withInputPool (mix inputShape (inputPool k) bs) k
 
--- the counts become i and b
-abbrev pub recount : ℕ → ℕ → Keeper → Keeper
-recount i b k = marking (withCounts i b) k
+-- a count becomes c
+abbrev pub recountInput : ℕ → Keeper → Keeper
+recountInput c k = marking (inputCounts c) k
+
+abbrev pub recountBlocking : ℕ → Keeper → Keeper
+recountBlocking c k = marking (blockingCounts c) k
 
 -- t bytes taken from the input pool: the count falls by 64 for each
 abbrev pub debitInput : ℕ → Keeper → Keeper
-debitInput t k = recount (debited t (inputCount (k .ledger))) (blockingCount (k .ledger)) k
+debitInput t k = recountInput (debited t (k .ledger .input .count)) k
 
 -- t bytes extracted go onto the key; the seeding clock becomes `now`; the keeper is seeded for good
 abbrev pub rekey : ℕ → Extract → Keeper → Keeper
-rekey now e k = marking (seededAt now) (withGenerator (ontoKey (e .bytes) (k .generator)) (withInput (e .pool) k))
+rekey now e k = marking (seededAt now) (withGenerator (ontoKey (e .bytes) (k .generator)) (withInputPool (e .pool) k))
 
 -- reseed: debit the input pool, 32 wanted, least 16; if none is taken, nothing changes
 unfoldable pub reseed : ℕ → Keeper → Run
 reseed now k =
-    let t = reseedTakes (inputCount (k .ledger)) in
+    let t = reseedTakes (k .ledger .input .count) in
     let e = extract inputShape t (inputPool k) in
     pick (eqb t 0) (k, 0) (rekey now e (debitInput t k), e .runs)
 
 -- credit n bits to the input pool; after n > 0, an unseeded keeper with a count of 1,024 or more reseeds
 unfoldable pub creditInput : ℕ → ℕ → Keeper → Run
 creditInput now n k =
-    let c = credited (inputShape .size) n (inputCount (k .ledger)) in
-    let k₁ = recount c (blockingCount (k .ledger)) k in
+    let c = credited (inputShape .size) n (k .ledger .input .count) in
+    let k₁ = recountInput c k in
     pick (eqb n 0) (k, 0) (pick (not (isSeeded (k .ledger)) && leb 1024 c) (reseed now k₁) (k₁, 0))
 
 -- ---- device event
@@ -68,8 +64,8 @@ eventCall device now stamp value k =
     let t = deviceTimer k device in
     let k₁ = mixInput (eventBytes stamp now value) k in
     let k₂ = marking (valued device value) (withTimer device (nextTimer now t) k₁) in
-    pick (ltb 15 device) (refused noSuchDevice k)
-    (pick (eqb device 0 && eqb value (lastValue (k .ledger))) (refused repeated k) (finished (creditInput now (eventBits now t) k₂)))
+    pick (leb devices device) (refused noSuchDevice k)
+    (pick (eqb device 0 && eqb value (k .ledger .value)) (refused repeated k) (finished (creditInput now (eventBits now t) k₂)))
 
 -- ---- interrupt
 unfoldable pub interruptCall : ℕ → ℕ → ℕ → ℕ → Keeper → Outcome
@@ -81,12 +77,12 @@ interruptCall now number stamp address k =
 
 -- ---- write: mix all bytes; no credit
 unfoldable pub writeCall : List ℕ → Keeper → Outcome
-writeCall bs k = pick (ltb 4096 (length bs)) (refused tooLong k) (finished (mixInput bs k, 0))
+writeCall bs k = pick (ltb longest (length bs)) (refused tooLong k) (finished (mixInput bs k, 0))
 
 -- ---- seed: mix all bytes, then credit the named bits
 unfoldable pub seedCall : ℕ → List ℕ → ℕ → Keeper → Outcome
 seedCall now bs credit k =
-    pick (ltb 4096 (length bs)) (refused tooLong k)
+    pick (ltb longest (length bs)) (refused tooLong k)
     (pick (ltb (8 * length bs) credit) (refused creditTooHigh k) (finished (creditInput now credit (mixInput bs k))))
 
 -- ---- generator read
@@ -102,8 +98,8 @@ generate len w =
 
 unfoldable pub readCall : ℕ → ℕ → Keeper → Outcome
 readCall now len k =
-    pick (ltb 4096 len) (refused tooLong k)
-    (pick (eqb len 0) (refused done k)
+    pick (ltb longest len) (refused tooLong k)
+    (pick (eqb len 0) (finished (k, 0))
     (pick (not (isSeeded (k .ledger))) (refused unseeded k) (generate len (pick (reseedDue now (k .ledger)) (reseed now k) (k, 0)))))
 
 -- ---- blocking read
@@ -111,27 +107,27 @@ readCall now len k =
 unfoldable pub transfer : ℕ → Keeper → Run
 transfer t k =
     let e = extract inputShape t (inputPool k) in
-    let k₁ = withInput (e .pool) (debitInput t k) in
-    let k₂ = withBlocking (mix blockingShape (blockingPool k₁) (e .bytes)) k₁ in
-    (recount (inputCount (k₂ .ledger)) (credited (blockingShape .size) (8 * t) (blockingCount (k₂ .ledger))) k₂, e .runs)
+    let k₁ = withInputPool (e .pool) (debitInput t k) in
+    let k₂ = withBlockingPool (mix blockingShape (blockingPool k₁) (e .bytes)) k₁ in
+    (recountBlocking (credited (blockingShape .size) (8 * t) (k₂ .ledger .blocking .count)) k₂, e .runs)
 
 -- the blocking pool is debited for n, least 0; what was taken is extracted and delivered
 unfoldable pub deliver : ℕ → Run → Outcome
 deliver n w =
     let l = w .0 .ledger in
-    let d = taken n 0 (blockingCount l) in
+    let d = taken n 0 (l .blocking .count) in
     let e = extract blockingShape d (blockingPool (w .0)) in
     record {
-      keeper = withBlocking (e .pool) (recount (inputCount l) (debited d (blockingCount l)) (w .0));
+      keeper = withBlockingPool (e .pool) (recountBlocking (debited d (l .blocking .count)) (w .0));
       answer = record { number = done; delivered = length (e .bytes); blocks = 0; compressions = w .1 + e .runs };
       bytes = e .bytes;
     }
 
 unfoldable pub blockingCall : ℕ → Keeper → Outcome
 blockingCall n k =
-    let t = pick (ltb (blockingCount (k .ledger)) (64 * n)) (taken (min (max n 8) 128) 8 (inputCount (k .ledger))) 0 in
-    pick (ltb 4096 n) (refused tooLong k)
-    (pick (eqb n 0) (refused done k) (pick (blocks (k .ledger)) (refused wouldBlock k) (deliver n (transfer t k))))
+    let t = pick (ltb (k .ledger .blocking .count) (64 * n)) (taken (min (max n 8) 128) 8 (k .ledger .input .count)) 0 in
+    pick (ltb longest n) (refused tooLong k)
+    (pick (eqb n 0) (finished (k, 0)) (pick (isLow (k .ledger)) (refused wouldBlock k) (deliver n (transfer t k))))
 
 -- ---- every call on a made keeper tests 17 first
 unfoldable pub act : Keeper → Call → Outcome

@@ -6,15 +6,14 @@ use Rattle.ledger.specs.Choice.{pick}
 use Rattle.ledger.specs.Shapes.{inputShape, blockingShape}
 use Rattle.ledger.specs.Marks.{withSpots}
 use Rattle.ledger.specs.PublicCalls.{deviceOf}
-use Rattle.ledger.specs.Machine.{kept, planAt}
+use Rattle.ledger.specs.Machine.{timersAfter, planAt}
 use Rattle.ledger.specs.declared.Plan.{Plan}
 use Rattle.pool.specs.Mixing.{Pool, mix}
 use Rattle.pool.specs.Extracting.{Extract, extract}
 use Rattle.keeper.specs.Generator.{ontoKey, Stream, generated}
-use Rattle.keeper.specs.Record.{inputPool, blockingPool, view, Outcome}
+use Rattle.keeper.specs.Record.{timersOf, inputPool, blockingPool, keeperOf, view, Outcome}
 use Rattle.keeper.specs.Calls.{Call, public, stirredBy, payload}
 use Rattle.keeper.specs.declared.Keeper.{Keeper}
-use Rattle.keeper.specs.declared.Answer.{Answer}
 
 -- the fast pool takes in the call's numbers, if the plan says so
 abbrev pub fastAfter : Call → Plan → Keeper → List ℕ
@@ -42,16 +41,12 @@ fromGenerator c p k = generated (p .stream) (ontoKey ((forReseed c p k) .bytes) 
 -- the record afterwards
 abbrev pub obeyed : Call → Plan → Keeper → Keeper
 obeyed c p k =
-    record {
-      ledger = withSpots ((forTransfer c p k) .pool .spot) ((forDelivery c p k) .pool .spot) (p .ledger);
-      clocks = kept p (deviceOf (public c)) (p .timer .clock) (k .clocks);
-      firsts = kept p (deviceOf (public c)) (p .timer .d1) (k .firsts);
-      seconds = kept p (deviceOf (public c)) (p .timer .d2) (k .seconds);
-      input = (forTransfer c p k) .pool .words;
-      blocking = (forDelivery c p k) .pool .words;
-      fast = fastAfter c p k;
-      generator = (fromGenerator c p k) .generator;
-    }
+    keeperOf (withSpots ((forTransfer c p k) .pool .spot) ((forDelivery c p k) .pool .spot) (p .ledger))
+    (timersAfter (deviceOf (public c)) p (timersOf k))
+    ((forTransfer c p k) .pool .words)
+    ((forDelivery c p k) .pool .words)
+    (fastAfter c p k)
+    ((fromGenerator c p k) .generator)
 
 -- the bytes handed out, and the compressions that were run for them
 abbrev pub handedOut : Call → Plan → Keeper → List ℕ

@@ -1,75 +1,68 @@
 -- The record, its two pools, a fresh keeper, and what a call hands back.
-use mathlib.Core.Bool.{Bool, true, false}
-use mathlib.Core.List.{List, [], _∷_, _++_}
+use mathlib.Core.Bool.{Bool}
+use mathlib.Core.List.{List, [], _++_}
 use Prim.Native.Nat.{ℕ}
 use lib.Dec.{eqb}
-use lib.IntN.{ℤ, pos}
-use lib.ListN.{length, set, take, drop, replicate}
+use lib.ListN.{length, take, drop, replicate}
 use Rattle.words.specs.Bytes.{bytesWords}
 use Rattle.ledger.specs.Choice.{pick}
+use Rattle.ledger.specs.Sizes.{inputWords, blockingWords, fastWords, startBytes}
 use Rattle.ledger.specs.Numbers.{done, startNot48}
-use Rattle.ledger.specs.Marks.{inputSpot, blockingSpot, withSpots, freshLedger}
-use Rattle.ledger.specs.Range.{inRange, fixedWords}
-use Rattle.ledger.specs.Machine.{View, timerOf}
+use Rattle.ledger.specs.Timers.{Timers, freshTimers, timerOf, kept}
+use Rattle.ledger.specs.Marks.{placing, withInput, withBlocking, freshLedger}
+use Rattle.ledger.specs.Range.{View, inRange, fixedWords}
 use Rattle.ledger.specs.declared.Ledger.{Ledger}
 use Rattle.ledger.specs.declared.Timer.{Timer}
+use Rattle.ledger.specs.declared.Answer.{Answer}
 use Rattle.pool.specs.Mixing.{Pool}
 use Rattle.keeper.specs.declared.Keeper.{Keeper}
-use Rattle.keeper.specs.declared.Answer.{Answer}
 
 -- ---- parts of the record
-abbrev pub inputPool : Keeper → Pool
-inputPool k = record { words = k .input; spot = inputSpot (k .ledger) }
-
-abbrev pub blockingPool : Keeper → Pool
-blockingPool k = record { words = k .blocking; spot = blockingSpot (k .ledger) }
+abbrev pub timersOf : Keeper → Timers
+timersOf k = record { clocks = k .clocks; firsts = k .firsts; seconds = k .seconds }
 
 abbrev pub deviceTimer : Keeper → ℕ → Timer
-deviceTimer k = timerOf (k .clocks) (k .firsts) (k .seconds)
+deviceTimer k = timerOf (timersOf k)
 
--- ---- the record with another part
+abbrev pub inputPool : Keeper → Pool
+inputPool k = record { words = k .input; spot = k .ledger .input .spot }
+
+abbrev pub blockingPool : Keeper → Pool
+blockingPool k = record { words = k .blocking; spot = k .ledger .blocking .spot }
+
+-- ---- the record out of its parts, and with another part
+abbrev pub keeperOf : Ledger → Timers → List ℕ → List ℕ → List ℕ → List ℕ → Keeper
+keeperOf l ts input blocking fast generator =
+    record { ledger = l; clocks = ts .clocks; firsts = ts .firsts; seconds = ts .seconds; input = input; blocking = blocking; fast = fast; generator = generator }
+
 abbrev pub withLedger : Ledger → Keeper → Keeper
-withLedger l k = record { ledger = l; clocks = k .clocks; firsts = k .firsts; seconds = k .seconds; input = k .input; blocking = k .blocking; fast = k .fast; generator = k .generator }
-
-abbrev pub withInput : Pool → Keeper → Keeper
-withInput p k =
-    record { ledger = withSpots (p .spot) (blockingSpot (k .ledger)) (k .ledger); clocks = k .clocks; firsts = k .firsts; seconds = k .seconds; input = p .words; blocking = k .blocking; fast = k .fast; generator = k .generator }
-
-abbrev pub withBlocking : Pool → Keeper → Keeper
-withBlocking p k =
-    record { ledger = withSpots (inputSpot (k .ledger)) (p .spot) (k .ledger); clocks = k .clocks; firsts = k .firsts; seconds = k .seconds; input = k .input; blocking = p .words; fast = k .fast; generator = k .generator }
-
-abbrev pub withFast : List ℕ → Keeper → Keeper
-withFast f k = record { ledger = k .ledger; clocks = k .clocks; firsts = k .firsts; seconds = k .seconds; input = k .input; blocking = k .blocking; fast = f; generator = k .generator }
-
-abbrev pub withGenerator : List ℕ → Keeper → Keeper
-withGenerator g k = record { ledger = k .ledger; clocks = k .clocks; firsts = k .firsts; seconds = k .seconds; input = k .input; blocking = k .blocking; fast = k .fast; generator = g }
+withLedger l k = keeperOf l (timersOf k) (k .input) (k .blocking) (k .fast) (k .generator)
 
 abbrev pub withTimer : ℕ → Timer → Keeper → Keeper
-withTimer device t k =
-    record { ledger = k .ledger; clocks = set (k .clocks) device (t .clock); firsts = set (k .firsts) device (t .d1); seconds = set (k .seconds) device (t .d2); input = k .input; blocking = k .blocking; fast = k .fast; generator = k .generator }
+withTimer device t k = keeperOf (k .ledger) (kept device t (timersOf k)) (k .input) (k .blocking) (k .fast) (k .generator)
+
+abbrev pub withInputPool : Pool → Keeper → Keeper
+withInputPool p k = keeperOf (withInput (placing (p .spot) (k .ledger .input)) (k .ledger)) (timersOf k) (p .words) (k .blocking) (k .fast) (k .generator)
+
+abbrev pub withBlockingPool : Pool → Keeper → Keeper
+withBlockingPool p k = keeperOf (withBlocking (placing (p .spot) (k .ledger .blocking)) (k .ledger)) (timersOf k) (k .input) (p .words) (k .fast) (k .generator)
+
+abbrev pub withFast : List ℕ → Keeper → Keeper
+withFast f k = keeperOf (k .ledger) (timersOf k) (k .input) (k .blocking) f (k .generator)
+
+abbrev pub withGenerator : List ℕ → Keeper → Keeper
+withGenerator g k = keeperOf (k .ledger) (timersOf k) (k .input) (k .blocking) (k .fast) g
 
 -- ---- a fresh keeper: all zero, unseeded, but for the generator's words
 abbrev pub fresh : List ℕ → Keeper
-fresh start =
-    record {
-      ledger = freshLedger;
-      clocks = replicate 16 0;
-      firsts = replicate 16 (pos 0);
-      seconds = replicate 16 (pos 0);
-      input = replicate 128 0;
-      blocking = replicate 32 0;
-      fast = replicate 4 0;
-      generator = fixedWords ++ bytesWords start;
-    }
+fresh start = keeperOf freshLedger freshTimers (replicate inputWords 0) (replicate blockingWords 0) (replicate fastWords 0) (fixedWords ++ bytesWords start)
 
--- ---- what is public of a record
+-- ---- what is public of a record, and its range test
 abbrev pub view : Keeper → View
-view k = record { ledger = k .ledger; clocks = k .clocks; firsts = k .firsts; seconds = k .seconds; fixed = take 4 (k .generator) }
+view k = record { ledger = k .ledger; timers = timersOf k; fixed = take 4 (k .generator) }
 
--- the range test of a record
 abbrev pub fine : Keeper → Bool
-fine k = inRange (k .ledger) (k .firsts) (k .seconds) (take 4 (k .generator))
+fine k = inRange (view k)
 
 -- ---- what a call gives: the record afterwards, the answer, and the bytes that it hands out
 pub record Outcome : Type 0 where
@@ -81,10 +74,17 @@ pub record Outcome : Type 0 where
 abbrev pub refused : ℕ → Keeper → Outcome
 refused n k = record { keeper = k; answer = record { number = n; delivered = 0; blocks = 0; compressions = 0 }; bytes = [] }
 
+-- a keeper, and the compressions run so far; and the call that ends so, with nothing to hand out
+abbrev pub Run : Type 0
+Run = Keeper × ℕ
+
+abbrev pub finished : Run → Outcome
+finished w = record { keeper = w .0; answer = record { number = done; delivered = 0; blocks = 0; compressions = w .1 }; bytes = [] }
+
 -- the output room afterwards: the bytes, and past them what was there
 abbrev pub roomAfter : List ℕ → List ℕ → List ℕ
 roomAfter room bytes = bytes ++ drop (length bytes) room
 
 -- making a keeper in a record that is lent: 48 start bytes, else answer 6 and no keeper made
 unfoldable pub made : List ℕ → Keeper → Outcome
-made start k = pick (eqb (length start) 48) (refused done (fresh start)) (refused startNot48 k)
+made start k = pick (eqb (length start) startBytes) (finished (fresh start, 0)) (refused startNot48 k)

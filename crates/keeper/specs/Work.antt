@@ -6,16 +6,16 @@ use mathlib.Core.List.{List, [], _∷_}
 use Prim.Native.Nat.{ℕ, _+_, _*_, _%_, _^_, _<_}
 use lib.ListN.{length, getD}
 use Rattle.ledger.specs.Choice.{pick}
+use Rattle.ledger.specs.Sizes.{startBytes}
 use Rattle.ledger.specs.Shapes.{inputShape, blockingShape}
 use Rattle.ledger.specs.Places.{moved, movedBlocks, blocksOf}
-use Rattle.ledger.specs.Marks.{inputSpot, blockingSpot}
 use Rattle.ledger.specs.PublicCalls.{PublicCall, brings}
 use Rattle.ledger.specs.Machine.{planAt}
-use Rattle.keeper.specs.Record.{view, Outcome}
+use Rattle.ledger.specs.declared.Answer.{Answer}
+use Rattle.keeper.specs.Record.{view}
 use Rattle.keeper.specs.Calls.{Call, public}
 use Rattle.keeper.specs.Narrative.{told}
 use Rattle.keeper.specs.declared.Keeper.{Keeper}
-use Rattle.keeper.specs.declared.Answer.{Answer}
 
 -- words 12 and 13 as one number
 abbrev pub counter : List ℕ → ℕ
@@ -32,8 +32,8 @@ blockingBlocks k c = blocksOf ((planAt (view k) c) .deliver)
 -- brought over the blocking pool, and then each extraction block moved its pool by 20 bytes more
 pub record Worked (k : Keeper) (c : PublicCall) (k′ : Keeper) (a : Answer) : Type 0 where
   pub blocks : counter (k′ .generator) ≡ (counter (k .generator) + a .blocks) % 2 ^ 64
-  pub input : inputSpot (k′ .ledger) ≡ movedBlocks inputShape (inputBlocks k c) (moved inputShape (pick ((planAt (view k) c) .feeds) (brings c) 0) (inputSpot (k .ledger)))
-  pub blocking : blockingSpot (k′ .ledger) ≡ movedBlocks blockingShape (blockingBlocks k c) (moved blockingShape ((planAt (view k) c) .transfer) (blockingSpot (k .ledger)))
+  pub input : k′ .ledger .input .spot ≡ movedBlocks inputShape (inputBlocks k c) (moved inputShape (pick ((planAt (view k) c) .feeds) (brings c) 0) (k .ledger .input .spot))
+  pub blocking : k′ .ledger .blocking .spot ≡ movedBlocks blockingShape (blockingBlocks k c) (moved blockingShape ((planAt (view k) c) .transfer) (k .ledger .blocking .spot))
   pub compressions : a .compressions ≡ 8 * inputBlocks k c + 2 * blockingBlocks k c
 
 -- so for each of the calls, one after another
@@ -43,5 +43,5 @@ AllWorked k (c ∷ cs) = Worked k (public c) ((told k c) .keeper) ((told k c) .a
 
 -- the start bytes of a keeper: 48 of them, each a byte
 pub record StartBytes (start : List ℕ) : Type 0 where
-  pub long : length start ≡ 48
+  pub long : length start ≡ startBytes
   pub each : (i : ℕ) → getD start i 0 < 2 ^ 8

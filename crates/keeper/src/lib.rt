@@ -5,24 +5,22 @@
 // contract cites Narrative, and whatever is public is read off the plan. The other files of proofs/ are the customer's demands.
 // The code comes on top of these definitions.
 
-// The record. One timer a device: its last clock, its d1 and its d2.
+use ledger::sizes::BLOCKING_WORDS;
+use ledger::sizes::DEVICES;
+use ledger::sizes::FAST_WORDS;
+use ledger::sizes::GENERATOR_WORDS;
+use ledger::sizes::INPUT_WORDS;
+
+// The record. First what is public: the ledger, and one timer a device, its last clock, its d1 and its d2. Then what is secret, but for
+// generator words 0 to 3.
 #[repr(C)]
 pub struct Keeper {
     pub ledger: ledger::Ledger,
-    pub clocks: [u32; 16],
-    pub firsts: [i64; 16],
-    pub seconds: [i64; 16],
-    pub input: [u32; 128],
-    pub blocking: [u32; 32],
-    pub fast: [u32; 4],
-    pub generator: [u32; 16],
-}
-
-// The number given back, the bytes delivered, and the work of the call: ChaCha20 blocks and SHA-1 compressions.
-#[repr(C)]
-pub struct Answer {
-    pub number: u32,
-    pub delivered: u32,
-    pub blocks: u32,
-    pub compressions: u32,
+    pub clocks: [u32; DEVICES],
+    pub firsts: [i64; DEVICES],
+    pub seconds: [i64; DEVICES],
+    pub input: [u32; INPUT_WORDS],
+    pub blocking: [u32; BLOCKING_WORDS],
+    pub fast: [u32; FAST_WORDS],
+    pub generator: [u32; GENERATOR_WORDS],
 }

@@ -13,8 +13,8 @@ use Rattle.ledger.specs.Choice.{pick}
 use Rattle.ledger.specs.Places.{moved, movedBlocks}
 use Rattle.ledger.specs.Credits.{further, credited, taken}
 use Rattle.ledger.specs.Clocks.{signed, log2, estimate, eventBits}
-use Rattle.ledger.specs.Marks.{inputCount, blockingCount, withCounts, seededAt}
-use Rattle.ledger.specs.Range.{ledgerInRange, restInRange, inRange, fixedWords}
+use Rattle.ledger.specs.Marks.{withCounts, seededAt}
+use Rattle.ledger.specs.Range.{ledgerInRange, othersInRange, inRange, fixedWords}
 use Rattle.pool.specs.Mixing.{twisted, tapped, mixedWords, mix}
 use Rattle.pool.specs.Extracting.{hashed, poolHash, folded, extractBlocks}
 use Rattle.keeper.specs.FastPool.{stirred}
@@ -23,7 +23,7 @@ use Rattle.keeper.specs.Record.{fresh, withLedger, withInput, withBlocking, wit
 use Rattle.keeper.specs.Calls.{Call, deviceEvent, interrupted, written, seededWith, generatorRead, blockingReadOf}
 use Rattle.keeper.specs.Narrative.{reseed, creditInput, eventCall, interruptCall, writeCall, seedCall, generate, readCall, transfer, deliver, blockingCall, act, told}
 use Rattle.keeper.specs.declared.Keeper.{Keeper}
-use Rattle.keeper.specs.declared.Answer.{Answer}
+use Rattle.ledger.specs.declared.Answer.{Answer}
 
 abbrev zero48 : Keeper
 zero48 = fresh (replicate 48 0)
@@ -31,7 +31,7 @@ zero48 = fresh (replicate 48 0)
 -- number, delivered, ChaCha20 blocks, compressions, input count, blocking count, input position and rotation
 abbrev line8 : Outcome → List ℕ
 line8 o =
-    o .answer .number ∷ o .answer .delivered ∷ o .answer .blocks ∷ o .answer .compressions ∷ inputCount (o .keeper .ledger) ∷ blockingCount (o .keeper .ledger)
+    o .answer .number ∷ o .answer .delivered ∷ o .answer .blocks ∷ o .answer .compressions ∷ o .keeper .ledger .input .count ∷ o .keeper .ledger .blocking .count
     ∷ o .keeper .ledger .«input_spot» .at ∷ o .keeper .ledger .«input_spot» .turn ∷ []
 
 -- a device event: 16 bytes mixed, 10 bits credited
@@ -54,7 +54,7 @@ abbrev spill : Outcome
 spill = told (withFast (1 ∷ 2 ∷ 3 ∷ 4 ∷ []) zero48) (interrupted 1001 9 0x0123456789abcdef 0xfedcba9876543210)
 
 pub spill-computes :
-    (line8 spill) ∷ (spill .keeper .fast) ∷ (spill .keeper .ledger .tally ∷ spill .keeper .ledger .«last_spill» ∷ []) ∷ (drop 112 (spill .keeper .input)) ∷ []
+    (line8 spill) ∷ (spill .keeper .fast) ∷ (spill .keeper .ledger .spill .tally ∷ spill .keeper .ledger .«last_spill» ∷ []) ∷ (drop 112 (spill .keeper .input)) ∷ []
     ≡ (0 ∷ 0 ∷ 0 ∷ 0 ∷ 6 ∷ 0 ∷ 112 ∷ 16 ∷ []) ∷ (0x5cb2b802 ∷ 0xdb3cc1d8 ∷ 0xab1527e4 ∷ 0x7e3a3cf6 ∷ []) ∷ (0 ∷ 1001 ∷ [])
     ∷ (0x9ac4a3f3 ∷ 0x0d03f61e ∷ 0x681fb018 ∷ 0x161f8c43 ∷ 0xbf9c6218 ∷ 0xfca16307 ∷ 0x88cf047c ∷ 0x1d5e3675
     ∷ 0x0ef1b3a8 ∷ 0x763b9d40 ∷ 0x073e1682 ∷ 0x39f0b218 ∷ 0x94f4968c ∷ 0x7702a1e6 ∷ 0x0edb83b2 ∷ 0x76dc4190 ∷ []) ∷ []

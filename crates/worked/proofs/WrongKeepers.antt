@@ -12,8 +12,8 @@ use Rattle.chacha.specs.Chacha.{line, quarterRound, innerBlock, rounds, chachaB
 use Rattle.ledger.specs.Choice.{pick}
 use Rattle.ledger.specs.Credits.{further, credited, taken}
 use Rattle.ledger.specs.Clocks.{signed}
-use Rattle.ledger.specs.Marks.{inputCount, blockingCount, lastSpill, withCounts, seededAt}
-use Rattle.ledger.specs.Range.{ledgerInRange, restInRange, inRange}
+use Rattle.ledger.specs.Marks.{withCounts, seededAt}
+use Rattle.ledger.specs.Range.{ledgerInRange, othersInRange, inRange}
 use Rattle.pool.specs.Mixing.{twisted, tapped, mixedWords, mix}
 use Rattle.pool.specs.Extracting.{hashed, poolHash, extractBlocks}
 use Rattle.keeper.specs.FastPool.{stirred}
@@ -127,8 +127,8 @@ unfolding told inRange restInRange ledgerInRange act seedCall creditInput credit
 six-units = refl
 
 -- one that adds a credit in full
-pub credit-in-full : (W : Machine) → ((k : Keeper) (now : ℕ) (bs : List ℕ) (n : ℕ) → inputCount ((W k (seededWith now bs n)) .keeper .ledger) ≡ inputCount (k .ledger) + 8 * n) → Right W → ⊥
-credit-in-full W h r = omega (arith, six-units, h blank 0 (0 ∷ []) 1, ap (λ (o : Outcome). inputCount (o .keeper .ledger)) (r blank (seededWith 0 (0 ∷ []) 1)))
+pub credit-in-full : (W : Machine) → ((k : Keeper) (now : ℕ) (bs : List ℕ) (n : ℕ) → inputCount ((W k (seededWith now bs n)) .keeper .ledger) ≡ k .ledger .input .count + 8 * n) → Right W → ⊥
+credit-in-full W h r = omega (arith, six-units, h blank 0 (0 ∷ []) 1, ap (λ (o : Outcome). o .keeper .ledger .input .count) (r blank (seededWith 0 (0 ∷ []) 1)))
 
 counter-first : low (after told seeded) ≡ 1
 unfolding told inRange restInRange ledgerInRange act readCall generate generated stream counted xorAt bytesWords leNumber wordsBytes leBytes chachaBlock rounds innerBlock quarterRound line rotl zipWith signed pick
@@ -157,10 +157,10 @@ key-blank = refl
 pub even-skipped : (W : Machine) → ((k : Keeper) (now : ℕ) → key ((W k (generatorRead now 64)) .keeper) ≡ key k) → Right W → ⊥
 even-skipped W h r = omega (arith, even-key, key-blank, h seeded 5, ap (λ (o : Outcome). key (o .keeper)) (r seeded (generatorRead 5 64)))
 
-stirred-once : (told blank (interrupted 0xffffffff 0 0 0)) .keeper .ledger .tally ≡ 1
+stirred-once : (told blank (interrupted 0xffffffff 0 0 0)) .keeper .ledger .spill .tally ≡ 1
 unfolding told inRange restInRange ledgerInRange act interruptCall signed pick
 stirred-once = refl
 
 -- one that counts a clock that ran back as a long wait: an interrupt one tick before the last spill spills
-pub back-is-long : (W : Machine) → ((k : Keeper) (number stamp address : ℕ) → lastSpill (k .ledger) ≡ 0 → (W k (interrupted 0xffffffff number stamp address)) .keeper .ledger .tally ≡ 0) → Right W → ⊥
-back-is-long W h r = omega (arith, stirred-once, h blank 0 0 0 refl, ap (λ (o : Outcome). o .keeper .ledger .tally) (r blank (interrupted 0xffffffff 0 0 0)))
+pub back-is-long : (W : Machine) → ((k : Keeper) (number stamp address : ℕ) → k .ledger .spill .clock ≡ 0 → (W k (interrupted 0xffffffff number stamp address)) .keeper .ledger .spill .tally ≡ 0) → Right W → ⊥
+back-is-long W h r = omega (arith, stirred-once, h blank 0 0 0 refl, ap (λ (o : Outcome). o .keeper .ledger .spill .tally) (r blank (interrupted 0xffffffff 0 0 0)))
