@@ -1,6 +1,6 @@
 -- The key stream block by block, and its bytes laid over a room.
 use mathlib.Core.Path.{_≡_, refl, sym, ap, _∙_}
-use mathlib.Core.List.{List, [], _∷_, _++_, append-assoc, append-nil}
+use mathlib.Core.List.{List, [], _∷_, _++_, append-nil}
 use Prim.Native.Nat.{ℕ, zero, suc, _+_, _-_, _*_, _<_, _≤_}
 use native.Mathlib.Omega.{arith}
 use lib.ListN.{length, set, take, drop, length-drop, drop-of-length-le}
@@ -8,24 +8,9 @@ use lib.Seq.{sets, take-all}
 use Rattle.words.proofs.Rooms.{sets-append, sets-cons, sets-none, sets-over, sets-whole}
 use Rattle.chacha.specs.Chacha.{chachaBlock, serialize}
 use Rattle.chacha.proofs.Lengths.{length-serialized}
-use Rattle.ledger.specs.Plans.{wholeBlocks}
+use Rattle.ledger.specs.Streams.{wholeBlocks}
 use Rattle.keeper.specs.Generator.{counted, stream}
-use Rattle.keeper.proofs.Counter.{stream-length, stream-keeps-length}
-
--- ---- one block more, at the end of the stream
--- the generator
-generator-more : (n : ℕ) (g : List ℕ) → (stream (suc n) g) .generator ≡ counted ((stream n g) .generator)
-unfolding stream
-generator-more zero g = refl
-generator-more (suc n) g = generator-more n (counted g)
-
--- the bytes
-pub bytes-more : (n : ℕ) (g : List ℕ) → (stream (suc n) g) .bytes ≡ (stream n g) .bytes ++ serialize (chachaBlock ((stream n g) .generator))
-unfolding stream
-bytes-more zero g = append-nil (serialize (chachaBlock g))
-bytes-more (suc n) g =
-    ap (λ (l : List ℕ). serialize (chachaBlock g) ++ l) (bytes-more n (counted g))
-    ∙ sym (append-assoc (serialize (chachaBlock g)) ((stream n (counted g)) .bytes) _)
+use Rattle.keeper.proofs.Counter.{stream-length, stream-keeps-length, stream-more, stream-counts}
 
 -- ---- bytes laid over a room
 -- over what stands behind its first k places
@@ -69,8 +54,8 @@ more g start out s n over k ls en eo f =
     record {
       made = suc j;
       place = omega (arith, f .place);
-      moved = rw (en, f .moved) (sym (generator-more j g));
-      laid = rw (eo, f .laid, e, f .moved, bytes-more j g) (sets-append start 0 ((stream j g) .bytes) _);
+      moved = rw (en, f .moved) (sym (stream-counts j g));
+      laid = rw (eo, f .laid, e, f .moved, stream-more j g) (sets-append start 0 ((stream j g) .bytes) _);
     }
 
 -- .. as the code has it, over the part of the room from k on

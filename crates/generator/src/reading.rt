@@ -7,7 +7,7 @@ ghost use Rattle.words.specs.Words.{add};
 ghost use lib.Seq.{sets};
 ghost use Rattle.chacha.specs.Chacha.{chachaBlock, serialize};
 ghost use Rattle.ledger.specs.Choice.{pick};
-ghost use Rattle.ledger.specs.Plans.{wholeBlocks, usedUp};
+ghost use Rattle.ledger.specs.Streams.{wholeBlocks, usedUp};
 ghost use Rattle.keeper.specs.Generator.{counted, stream, generated};
 use crate::key::onto_key;
 use chacha::lay_block;

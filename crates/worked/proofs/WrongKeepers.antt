@@ -12,7 +12,7 @@ use Rattle.chacha.specs.Chacha.{line, quarterRound, innerBlock, rounds, chachaB
 use Rattle.ledger.specs.Choice.{pick}
 use Rattle.ledger.specs.Credits.{further, credited, taken}
 use Rattle.ledger.specs.Clocks.{signed}
-use Rattle.ledger.specs.Marks.{withCounts, seededAt}
+use Rattle.ledger.specs.Marks.{blockingCounts, seededAt}
 use Rattle.ledger.specs.Range.{ledgerInRange, othersInRange, inRange}
 use Rattle.pool.specs.Mixing.{twisted, tapped, mixedWords, mix}
 use Rattle.pool.specs.Extracting.{hashed, poolHash, extractBlocks}
@@ -42,7 +42,7 @@ abbrev other : Keeper
 other = withGenerator (fresh (1 ∷ replicate 47 0) .generator) seeded
 
 abbrev filled : Keeper
-filled = withLedger (withCounts 0 640 (blank .ledger)) blank
+filled = withLedger (blockingCounts 640 (blank .ledger)) blank
 
 abbrev after : Machine → Keeper → Keeper
 after W k = (W k (generatorRead 5 32)) .keeper
@@ -55,7 +55,7 @@ abbrev low : Keeper → ℕ
 low k = getD (k .generator) 12 0
 
 filled-gives : (told filled (blockingReadOf 10)) .answer .number ≡ 0
-unfolding told inRange restInRange ledgerInRange act blockingCall deliver pick
+unfolding told inRange othersInRange ledgerInRange act blockingCall deliver pick
 filled-gives = refl
 
 -- one that always blocks
@@ -63,11 +63,11 @@ pub always-blocks : (W : Machine) → ((k : Keeper) (n : ℕ) → (W k (blocking
 always-blocks W h r = omega (arith, h filled 10, ap (λ (o : Outcome). o .answer .number) (r filled (blockingReadOf 10)), filled-gives)
 
 first-byte : getD ((told seeded (generatorRead 5 1)) .bytes) 0 0 ≡ 0x76
-unfolding told inRange restInRange ledgerInRange act readCall generate generated stream counted xorAt bytesWords leNumber wordsBytes leBytes chachaBlock rounds innerBlock quarterRound line rotl zipWith signed pick
+unfolding told inRange othersInRange ledgerInRange act readCall generate generated stream counted xorAt bytesWords leNumber wordsBytes leBytes chachaBlock rounds innerBlock quarterRound line rotl zipWith signed pick
 first-byte = refl
 
 other-byte : getD ((told other (generatorRead 5 1)) .bytes) 0 0 ≡ 0xc5
-unfolding told inRange restInRange ledgerInRange act readCall generate generated stream counted xorAt bytesWords leNumber wordsBytes leBytes chachaBlock rounds innerBlock quarterRound line rotl zipWith signed pick
+unfolding told inRange othersInRange ledgerInRange act readCall generate generated stream counted xorAt bytesWords leNumber wordsBytes leBytes chachaBlock rounds innerBlock quarterRound line rotl zipWith signed pick
 other-byte = refl
 
 -- one whose bytes are constant
@@ -76,7 +76,7 @@ constant-bytes W h r =
     omega (arith, first-byte, other-byte, ap (λ (o : Outcome). getD (o .bytes) 0 0) (r seeded (generatorRead 5 1)), ap (λ (o : Outcome). getD (o .bytes) 0 0) (r other (generatorRead 5 1)), ap (λ (bs : List ℕ). getD bs 0 0) (h seeded other (generatorRead 5 1)))
 
 mixed-word : getD ((told blank (written (1 ∷ []))) .keeper .input) 127 0 ≡ 0x3b6e20c8
-unfolding told inRange restInRange ledgerInRange act writeCall mix mixedWords tapped twisted rotl pick
+unfolding told inRange othersInRange ledgerInRange act writeCall mix mixedWords tapped twisted rotl pick
 mixed-word = refl
 
 -- one that never mixes
@@ -84,11 +84,11 @@ pub never-mixes : (W : Machine) → ((k : Keeper) (bs : List ℕ) → (W k (writ
 never-mixes W h r = omega (arith, mixed-word, ap (λ (o : Outcome). getD (o .keeper .input) 127 0) (r blank (written (1 ∷ []))), ap (λ (ws : List ℕ). getD ws 127 0) (h blank (1 ∷ [])))
 
 key-first : key (after told seeded) ≡ 0x7c5941da
-unfolding told inRange restInRange ledgerInRange act readCall generate generated stream counted xorAt bytesWords leNumber wordsBytes leBytes chachaBlock rounds innerBlock quarterRound line rotl zipWith signed pick
+unfolding told inRange othersInRange ledgerInRange act readCall generate generated stream counted xorAt bytesWords leNumber wordsBytes leBytes chachaBlock rounds innerBlock quarterRound line rotl zipWith signed pick
 key-first = refl
 
 key-second : key (after told (after told seeded)) ≡ 0xaa657631
-unfolding told inRange restInRange ledgerInRange act readCall generate generated stream counted xorAt bytesWords leNumber wordsBytes leBytes chachaBlock rounds innerBlock quarterRound line rotl zipWith signed pick
+unfolding told inRange othersInRange ledgerInRange act readCall generate generated stream counted xorAt bytesWords leNumber wordsBytes leBytes chachaBlock rounds innerBlock quarterRound line rotl zipWith signed pick
 key-second = refl
 
 -- one that changes the key after the first read only
@@ -99,11 +99,11 @@ key-once W h r =
     omega (arith, key-first, key-second, h seeded, b, ap key a)
 
 blocks-32 : (told seeded (generatorRead 5 32)) .answer .blocks ≡ 1
-unfolding told inRange restInRange ledgerInRange act readCall generate generated stream signed pick
+unfolding told inRange othersInRange ledgerInRange act readCall generate generated stream signed pick
 blocks-32 = refl
 
 blocks-33 : (told seeded (generatorRead 5 33)) .answer .blocks ≡ 2
-unfolding told inRange restInRange ledgerInRange act readCall generate generated stream signed pick
+unfolding told inRange othersInRange ledgerInRange act readCall generate generated stream signed pick
 blocks-33 = refl
 
 -- one that reports a fixed work count
@@ -111,31 +111,31 @@ pub fixed-work : (W : Machine) → ((k k′ : Keeper) (c c′ : Call) → (W k c
 fixed-work W h r = omega (arith, blocks-32, blocks-33, h seeded seeded (generatorRead 5 32) (generatorRead 5 33), ap (λ (o : Outcome). o .answer .blocks) (r seeded (generatorRead 5 32)), ap (λ (o : Outcome). o .answer .blocks) (r seeded (generatorRead 5 33)))
 
 two-runs : (told filled (blockingReadOf 10)) .answer .compressions ≡ 2
-unfolding told inRange restInRange ledgerInRange act blockingCall deliver transfer taken credited further extractBlocks poolHash hashed pick
+unfolding told inRange othersInRange ledgerInRange act blockingCall deliver transfer taken credited further extractBlocks poolHash hashed pick
 two-runs = refl
 
 no-runs : (told blank (written [])) .answer .compressions ≡ 0
-unfolding told inRange restInRange ledgerInRange act writeCall pick
+unfolding told inRange othersInRange ledgerInRange act writeCall pick
 no-runs = refl
 
 -- .. nor one whose compressions are fixed
 pub fixed-compressions : (W : Machine) → ((k k′ : Keeper) (c c′ : Call) → (W k c) .answer .compressions ≡ (W k′ c′) .answer .compressions) → Right W → ⊥
 fixed-compressions W h r = omega (arith, two-runs, no-runs, h filled blank (blockingReadOf 10) (written []), ap (λ (o : Outcome). o .answer .compressions) (r filled (blockingReadOf 10)), ap (λ (o : Outcome). o .answer .compressions) (r blank (written [])))
 
-six-units : inputCount ((told blank (seededWith 0 (0 ∷ []) 1)) .keeper .ledger) ≡ 6
-unfolding told inRange restInRange ledgerInRange act seedCall creditInput credited further pick
+six-units : (told blank (seededWith 0 (0 ∷ []) 1)) .keeper .ledger .input .count ≡ 6
+unfolding told inRange othersInRange ledgerInRange act seedCall creditInput credited further pick
 six-units = refl
 
 -- one that adds a credit in full
-pub credit-in-full : (W : Machine) → ((k : Keeper) (now : ℕ) (bs : List ℕ) (n : ℕ) → inputCount ((W k (seededWith now bs n)) .keeper .ledger) ≡ k .ledger .input .count + 8 * n) → Right W → ⊥
+pub credit-in-full : (W : Machine) → ((k : Keeper) (now : ℕ) (bs : List ℕ) (n : ℕ) → (W k (seededWith now bs n)) .keeper .ledger .input .count ≡ k .ledger .input .count + 8 * n) → Right W → ⊥
 credit-in-full W h r = omega (arith, six-units, h blank 0 (0 ∷ []) 1, ap (λ (o : Outcome). o .keeper .ledger .input .count) (r blank (seededWith 0 (0 ∷ []) 1)))
 
 counter-first : low (after told seeded) ≡ 1
-unfolding told inRange restInRange ledgerInRange act readCall generate generated stream counted xorAt bytesWords leNumber wordsBytes leBytes chachaBlock rounds innerBlock quarterRound line rotl zipWith signed pick
+unfolding told inRange othersInRange ledgerInRange act readCall generate generated stream counted xorAt bytesWords leNumber wordsBytes leBytes chachaBlock rounds innerBlock quarterRound line rotl zipWith signed pick
 counter-first = refl
 
 counter-second : low (after told (after told seeded)) ≡ 2
-unfolding told inRange restInRange ledgerInRange act readCall generate generated stream counted xorAt bytesWords leNumber wordsBytes leBytes chachaBlock rounds innerBlock quarterRound line rotl zipWith signed pick
+unfolding told inRange othersInRange ledgerInRange act readCall generate generated stream counted xorAt bytesWords leNumber wordsBytes leBytes chachaBlock rounds innerBlock quarterRound line rotl zipWith signed pick
 counter-second = refl
 
 -- one that starts the counter again at each read
@@ -146,7 +146,7 @@ counter-restarts W h r =
     omega (arith, counter-first, counter-second, h seeded (after told seeded), b, ap low a)
 
 even-key : key ((told seeded (generatorRead 5 64)) .keeper) ≡ 0xbee7079f
-unfolding told inRange restInRange ledgerInRange act readCall generate generated stream counted xorAt bytesWords leNumber wordsBytes leBytes chachaBlock rounds innerBlock quarterRound line rotl zipWith signed pick
+unfolding told inRange othersInRange ledgerInRange act readCall generate generated stream counted xorAt bytesWords leNumber wordsBytes leBytes chachaBlock rounds innerBlock quarterRound line rotl zipWith signed pick
 even-key = refl
 
 key-blank : key seeded ≡ 0
@@ -158,7 +158,7 @@ pub even-skipped : (W : Machine) → ((k : Keeper) (now : ℕ) → key ((W k (ge
 even-skipped W h r = omega (arith, even-key, key-blank, h seeded 5, ap (λ (o : Outcome). key (o .keeper)) (r seeded (generatorRead 5 64)))
 
 stirred-once : (told blank (interrupted 0xffffffff 0 0 0)) .keeper .ledger .spill .tally ≡ 1
-unfolding told inRange restInRange ledgerInRange act interruptCall signed pick
+unfolding told inRange othersInRange ledgerInRange act interruptCall signed pick
 stirred-once = refl
 
 -- one that counts a clock that ran back as a long wait: an interrupt one tick before the last spill spills

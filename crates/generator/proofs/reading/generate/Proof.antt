@@ -6,7 +6,7 @@ use native.Mathlib.Omega.{arith}
 use lib.ListN.{length}
 use lib.Seq.{length-take-le}
 use Rattle.generator.proofs.Laying.{whole-block}
-use Rattle.generator.proofs.KeyBytes.{read-bytes, read-none, read-further, read-within}
+use Rattle.generator.proofs.KeyBytes.{as-many, read-bytes, read-none, read-further, read-within}
 use borrow.Author.Needs.{needs}
 use Rattle.generator.proofs.reading.generate.Statement.{statement}
 use Rattle.generator.proofs.reading.generate.Tie as tie
@@ -58,9 +58,10 @@ returns-2 c =
     let t : tie.Then2 = search in
     let n : tie.After-next-block = search in
     let b = n .next-block .ensures in
+    let g16 = as-many _ _ _ (f .fill .ensures .1 .0) (b .1 .1) in
     let len = length (s .args .out .now) in (
-      f .fill .ensures .0 ∙ sym (read-bytes len (s .args .g .now)),
-      read-further len (s .args .g .now) _ _ _ _ (rw (u .used-up .ensures .0) at (t .if2 .taken)) (f .fill .ensures .1 .0) (whole-block _ _ _ (b .1 .1) (omega arith) (b .0)) (b .1 .0) (c .onto-key .ensures),
+      f .fill .ensures .0 ∙ sym (read-bytes len (s .args .g .now) g16),
+      read-further len (s .args .g .now) _ _ _ _ g16 (rw (u .used-up .ensures .0) at (t .if2 .taken)) (f .fill .ensures .1 .0) (whole-block _ _ _ (b .1 .1) (omega arith) (b .0)) (b .1 .0) (c .onto-key .ensures),
     )
 
 add-end : tie.Need-add-end
@@ -89,9 +90,10 @@ returns-3 c =
     let t : tie.Else2 = search in
     let k : tie.After-onto-key-arg2 = search in
     let e : u .used-up .result + 32 - u .used-up .result ≡ 32 = omega arith in
+    let g16 = as-many _ _ _ (f .fill .ensures .1 .0) (k .onto-key-arg2 .given .0 .1) in
     let len = length (s .args .out .now) in (
-      f .fill .ensures .0 ∙ sym (read-bytes len (s .args .g .now)),
-      read-within len (s .args .g .now) _ _ _ (k .onto-key-arg2 .given .0 .1) (omega arith) (rw (u .used-up .ensures .0) at (t .if2 .left)) (f .fill .ensures .1 .0) (f .fill .ensures .1 .1) (rw (e, u .used-up .ensures .0) at (c .onto-key2 .ensures)),
+      f .fill .ensures .0 ∙ sym (read-bytes len (s .args .g .now) g16),
+      read-within len (s .args .g .now) _ _ _ g16 (omega arith) (rw (u .used-up .ensures .0) at (t .if2 .left)) (f .fill .ensures .1 .0) (f .fill .ensures .1 .1) (rw (e, u .used-up .ensures .0) at (c .onto-key2 .ensures)),
     )
 
 pub generate-spec : {M : Type 1} → statement M
