@@ -1,7 +1,7 @@
 -- What a call will do, decided from public numbers alone: the ledger, one device's timer, and the call's public fields. Tests stand
 -- in the paper's order: length before credit, blocking and seeding; device before the repeated value; a read of length 0 answers 0.
 use mathlib.Core.Bool.{Bool, true, false, _&&_, not}
-use Prim.Native.Nat.{ℕ, _+_, _-_, _*_, _/_, min, max}
+use Prim.Native.Nat.{ℕ, _+_, _-_, _*_, _/_, _≤_, min, max}
 use lib.Dec.{ltb, leb, eqb}
 use Rattle.ledger.specs.Choice.{pick}
 use Rattle.ledger.specs.Sizes.{devices, longest}
@@ -109,6 +109,13 @@ unfoldable pub decide : Bool → Ledger → Timer → PublicCall → Plan
 decide others l t c = pick (others && (ledgerInRange l && timerInRange t)) (planCall l t c) (idle outOfRange l)
 
 -- ---- what a plan costs and hands out
+-- a plan's numbers of bytes, as far as any plan goes
+pub record Small (p : Plan) : Type 0 where
+  pub reseed : p .reseed ≤ 32
+  pub transfer : p .transfer ≤ 128
+  pub deliver : p .deliver ≤ longest
+  pub stream : p .stream ≤ longest
+
 -- the compressions: for each extraction block its whole pool's
 abbrev pub compressionsRun : Plan → ℕ
 compressionsRun p = rounds inputShape * blocksOf (p .reseed) + rounds inputShape * blocksOf (p .transfer) + rounds blockingShape * blocksOf (p .deliver)

@@ -11,12 +11,16 @@ pub record Timers : Type 0 where
   pub firsts : List ℤ
   pub seconds : List ℤ
 
+-- a table of three arrays
+abbrev pub timersOf : List ℕ → List ℤ → List ℤ → Timers
+timersOf clocks firsts seconds = record { clocks = clocks; firsts = firsts; seconds = seconds }
+
 -- of a device that had no event, and of all of them
 abbrev pub freshTimer : Timer
 freshTimer = record { clock = 0; d1 = pos 0; d2 = pos 0 }
 
 abbrev pub freshTimers : Timers
-freshTimers = record { clocks = replicate devices 0; firsts = replicate devices (pos 0); seconds = replicate devices (pos 0) }
+freshTimers = timersOf (replicate devices 0) (replicate devices (pos 0)) (replicate devices (pos 0))
 
 -- a device's timer; where there is no such device a call is refused, whatever stands here
 abbrev pub timerOf : Timers → ℕ → Timer
@@ -24,4 +28,4 @@ timerOf ts device = record { clock = getD (ts .clocks) device 0; d1 = getD (ts .
 
 -- a device's timer is kept
 abbrev pub kept : ℕ → Timer → Timers → Timers
-kept device t ts = record { clocks = set (ts .clocks) device (t .clock); firsts = set (ts .firsts) device (t .d1); seconds = set (ts .seconds) device (t .d2) }
+kept device t ts = timersOf (set (ts .clocks) device (t .clock)) (set (ts .firsts) device (t .d1)) (set (ts .seconds) device (t .d2))

@@ -2,14 +2,18 @@
 // and the pass over the timers runs to its end whatever it met, so that the steps taken do not depend on where a fault lies.
 ghost use mathlib.Core.Path.{_≡_};
 ghost use mathlib.Core.Bool.{_&&_};
-ghost use Prim.Native.Nat.{_^_};
-ghost use lib.Dec.{leb, ltb};
+ghost use mathlib.Core.List.{List, []};
+ghost use Prim.Native.Nat.{ℕ, _^_};
+ghost use lib.Dec.{ltb};
 ghost use lib.ListN.{length};
-ghost use Rattle.ledger.specs.Range.{firstInRange, secondInRange, timerInRange, ledgerInRange, restInRange, every, sameWords, fixedWords};
+ghost use Rattle.ledger.specs.Timers.{timersOf};
+ghost use Rattle.ledger.specs.Range.{poolInRange, firstInRange, secondInRange, timerInRange, timersInRange, ledgerInRange, othersInRange, sameWords, fixedWords};
 use crate::clocks::amount;
+use ledger::Gauge;
 use ledger::Ledger;
-use ledger::Spot;
 use ledger::Timer;
+use ledger::sizes::BLOCKING_WORDS;
+use ledger::sizes::INPUT_WORDS;
 use std::num::wrapping_sub_u64;
 
 // d + 2^31, modulo 2^64: below 2^32 where d is in -2^31 to 2^31 - 1, and only there. It compiles to one sum.
@@ -38,19 +42,19 @@ pub fn timer_in_range(t: Timer) -> bool
 }
 
 // A pool of `words` words: its count within its size, its position inside it, no rotation above 31.
-fn pool_in_range(count: u32, size: u32, spot: Spot, words: u32) -> bool
-    ensures { λ r. ⌜ r ≡ (leb count size && (ltb (spot .at) words && leb (spot .turn) 31)) ⌝ }
+fn pool_in_range(g: Gauge, size: u32, words: usize) -> bool
+    ensures { λ r. ⌜ r ≡ poolInRange (record { words = words; taps = []; size = size }) g ⌝ }
 {
-    (count <= size) & (spot.at < words) & (spot.turn <= 31)
+    (g.count <= size) & (((g.spot.at as usize) < words) & (g.spot.turn <= 31))
 }
 
 // Both pools, and the tally.
 pub fn ledger_in_range(l: Ledger) -> bool
     ensures { λ r. ⌜ r ≡ ledgerInRange l ⌝ }
 {
-    let input = pool_in_range(l.input_count, 32768, l.input_spot, 128);
-    let blocking = pool_in_range(l.blocking_count, 8192, l.blocking_spot, 32);
-    input & blocking & (l.tally <= 63)
+    let input = pool_in_range(l.input, 32768, INPUT_WORDS);
+    let blocking = pool_in_range(l.blocking, 8192, BLOCKING_WORDS);
+    input & (blocking & (l.spill.tally <= 63))
 }
 
 // Generator words 0 to 3.
@@ -63,10 +67,11 @@ fn same_words(fixed: [u32; 4]) -> bool
         & (fixed[3] == 0x6b20_6574)
 }
 
-// Every device's timer, in one pass over both arrays. A bit from 2^32 on, once met, stays; one comparison at the end tells.
+// Every device's timer, in one pass over both arrays. A bit from 2^32 on, once met, stays; one comparison at the end tells. The clocks
+// may be any: none is out of range.
 fn timers_in_range(firsts: &[i64], seconds: &[i64]) -> bool
     requires { ⌜ length (now firsts) ≡ length (now seconds) ⌝ }
-    ensures { λ r. ⌜ r ≡ (every firstInRange (now (firsts .entry)) && every secondInRange (now (seconds .entry))) ⌝ }
+    ensures { λ r. ⌜ r ≡ timersInRange (timersOf [] (now (firsts .entry)) (now (seconds .entry))) ⌝ }
 {
     let mut met: u64 = 0;
     let mut i: usize = 0;
@@ -77,10 +82,11 @@ fn timers_in_range(firsts: &[i64], seconds: &[i64]) -> bool
     met < 0x1_0000_0000
 }
 
-// The rest of the record: the timers, and generator words 0 to 3.
-pub fn rest_in_range(firsts: &[i64], seconds: &[i64], fixed: [u32; 4]) -> bool
+// What the ledger does not hold: all timers, whatever their clocks, and generator words 0 to 3. The timers come as slices: of an array the
+// compiler unrolls the loop before it asks whether to make this a part of its caller, and then it is too large.
+pub fn others_in_range(firsts: &[i64], seconds: &[i64], fixed: [u32; 4]) -> bool
     requires { ⌜ length (now firsts) ≡ length (now seconds) ⌝ }
-    ensures { λ r. ⌜ r ≡ restInRange (now (firsts .entry)) (now (seconds .entry)) fixed ⌝ }
+    ensures { λ r. ⌜ ((clocks : List ℕ) → r ≡ othersInRange (timersOf clocks (now (firsts .entry)) (now (seconds .entry))) fixed) ⌝ }
 {
     timers_in_range(firsts, seconds) & same_words(fixed)
 }

@@ -1,4 +1,3 @@
-use mathlib.Core.Bool.{and-assoc}
 use borrow.Author.Needs.{needs}
 use Rattle.ledger.specs.Range.{ledgerInRange}
 use Rattle.reckon.proofs.range.ledger_in_range.Statement.{statement}
@@ -13,9 +12,9 @@ pool-in-range-requires-2 c κs = search needs
 returns : tie.Need-returns
 unfolding ledgerInRange
 returns c =
-    let i = c .before .before .pool-in-range in
-    let b = c .before .pool-in-range2 in
-    rw (and-assoc (i .result) (b .result), i .ensures, b .ensures)
+    let b : tie.After-pool-in-range2 = search in
+    let i : tie.After-pool-in-range = search in
+    rw (i .pool-in-range .ensures, b .pool-in-range2 .ensures)
 
 pub ledger-in-range-spec : {M : Type 1} → statement M
 ledger-in-range-spec = tie.close (tie.spec pool-in-range-requires pool-in-range-requires-2 returns)

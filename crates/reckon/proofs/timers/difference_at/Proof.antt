@@ -2,8 +2,8 @@ use mathlib.Core.Path.{sym}
 use lib.IntN.{pos}
 use lib.ListN.{List·getD-eq-default}
 use borrow.Author.Needs.{needs}
-use Rattle.steps.proofs.timers.difference_at.Statement.{statement}
-use Rattle.steps.proofs.timers.difference_at.Tie as tie
+use Rattle.reckon.proofs.timers.difference_at.Statement.{statement}
+use Rattle.reckon.proofs.timers.difference_at.Tie as tie
 
 mul-result : tie.Need-mul-result
 mul-result c = search needs

@@ -1,8 +1,9 @@
-use mathlib.Core.Path.{refl}
+use mathlib.Core.Path.{ap₂}
+use Rattle.ledger.specs.Timers.{timersOf}
 use Rattle.reckon.proofs.Signs.{back}
 use borrow.Author.Needs.{needs}
-use Rattle.steps.proofs.timers.keep_timer.Statement.{statement}
-use Rattle.steps.proofs.timers.keep_timer.Tie as tie
+use Rattle.reckon.proofs.timers.keep_timer.Statement.{statement}
+use Rattle.reckon.proofs.timers.keep_timer.Tie as tie
 
 mul-clocks : tie.Need-mul-clocks
 mul-clocks c = search needs
@@ -22,7 +23,7 @@ returns c =
     let told = c .before .before .before .before .struct-told .given in
     let first = back (a .t .d1) (told .1 .0 .1) in
     let second = back (a .t .d2) (told .1 .1 .0 .1) in
-    (refl, (rw first at (c .before .before .before .keep-difference .ensures), rw second at (c .keep-difference2 .ensures)))
+    ap₂ (timersOf _) (rw first at (c .before .before .before .keep-difference .ensures)) (rw second at (c .keep-difference2 .ensures))
 
 pub keep-timer-spec : {M : Type 1} → statement M
 keep-timer-spec =

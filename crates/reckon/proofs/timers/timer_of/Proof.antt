@@ -1,8 +1,8 @@
 use mathlib.Core.Path.{refl}
 use Rattle.reckon.proofs.Signs.{back}
 use borrow.Author.Needs.{needs}
-use Rattle.steps.proofs.timers.timer_of.Statement.{statement}
-use Rattle.steps.proofs.timers.timer_of.Tie as tie
+use Rattle.reckon.proofs.timers.timer_of.Statement.{statement}
+use Rattle.reckon.proofs.timers.timer_of.Tie as tie
 
 clock-at-requires : tie.Need-clock-at-requires
 clock-at-requires c κs = search needs

@@ -3,8 +3,10 @@ ghost use mathlib.Core.Path.{_≡_};
 ghost use Prim.Native.Nat.{_<_};
 ghost use lib.IntN.{pos};
 ghost use lib.ListN.{getD, set};
-ghost use Rattle.ledger.specs.Machine.{timerOf};
+ghost use Rattle.ledger.specs.Sizes.{devices};
+ghost use Rattle.ledger.specs.Timers.{timersOf, timerOf, kept};
 use ledger::Timer;
+use ledger::sizes::DEVICES;
 
 // A device's clock; where there is no such device, 0.
 fn clock_at(clocks: &[u32], device: usize) -> u32
@@ -27,9 +29,14 @@ fn difference_at(differences: &[i64], device: usize) -> i64
     0
 }
 
-// The timer of a device; of one over 15 there is none, and what stands here is not used.
-pub fn timer_of(clocks: &[u32; 16], firsts: &[i64; 16], seconds: &[i64; 16], device: u32) -> Timer
-    ensures { λ r. ⌜ r ≡ timerOf (now (clocks .entry)) (now (firsts .entry)) (now (seconds .entry)) device ⌝ }
+// The timer of a device; where there is no such device, what stands here is not used.
+pub fn timer_of(
+    clocks: &[u32; DEVICES],
+    firsts: &[i64; DEVICES],
+    seconds: &[i64; DEVICES],
+    device: u32,
+) -> Timer
+    ensures { λ r. ⌜ r ≡ timerOf (timersOf (now (clocks .entry)) (now (firsts .entry)) (now (seconds .entry))) device ⌝ }
 {
     let i = device as usize;
     let clock = clock_at(clocks, i);
@@ -43,26 +50,24 @@ pub fn timer_of(clocks: &[u32; 16], firsts: &[i64; 16], seconds: &[i64; 16], dev
 }
 
 // A device's difference is kept.
-fn keep_difference(differences: &mut [i64; 16], device: u32, d: i64)
-    requires { ⌜ device < 16 ⌝ }
+fn keep_difference(differences: &mut [i64; DEVICES], device: u32, d: i64)
+    requires { ⌜ device < devices ⌝ }
     ensures { λ _. ⌜ now (differences .exit) ≡ set (now (differences .entry)) device d ⌝ }
 {
     let i = device as usize;
     differences[i] = d;
 }
 
-// The timer of a device is kept.
+// The timer of a device is kept. Only proved code comes here, after the device was tested.
 pub fn keep_timer(
-    clocks: &mut [u32; 16],
-    firsts: &mut [i64; 16],
-    seconds: &mut [i64; 16],
+    clocks: &mut [u32; DEVICES],
+    firsts: &mut [i64; DEVICES],
+    seconds: &mut [i64; DEVICES],
     device: u32,
     t: Timer,
 )
-    requires { ⌜ device < 16 ⌝ }
-    ensures { λ _. ⌜ now (clocks .exit) ≡ set (now (clocks .entry)) device (t .clock) ⌝ }
-    ensures { λ _. ⌜ now (firsts .exit) ≡ set (now (firsts .entry)) device (t .d1) ⌝ }
-    ensures { λ _. ⌜ now (seconds .exit) ≡ set (now (seconds .entry)) device (t .d2) ⌝ }
+    requires { ⌜ device < devices ⌝ }
+    ensures { λ _. ⌜ timersOf (now (clocks .exit)) (now (firsts .exit)) (now (seconds .exit)) ≡ kept device t (timersOf (now (clocks .entry)) (now (firsts .entry)) (now (seconds .entry))) ⌝ }
 {
     let i = device as usize;
     clocks[i] = t.clock;

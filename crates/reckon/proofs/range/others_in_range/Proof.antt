@@ -1,0 +1,19 @@
+use borrow.Author.Needs.{needs}
+use Rattle.ledger.specs.Range.{othersInRange}
+use Rattle.reckon.proofs.range.others_in_range.Statement.{statement}
+use Rattle.reckon.proofs.range.others_in_range.Tie as tie
+
+timers-in-range-requires : tie.Need-timers-in-range-requires
+timers-in-range-requires c κs = search needs
+
+same-words-requires : tie.Need-same-words-requires
+same-words-requires c κs = search needs
+
+returns : tie.Need-returns
+unfolding othersInRange
+returns c clocks =
+    let t : tie.After-timers-in-range = search in
+    rw (t .timers-in-range .ensures, c .same-words .ensures)
+
+pub others-in-range-spec : {M : Type 1} → statement M
+others-in-range-spec = tie.close (tie.spec timers-in-range-requires same-words-requires returns)
