@@ -25,7 +25,7 @@ use Rattle.pool.specs.Mixing.{Pool, mix}
 use Rattle.pool.specs.Extracting.{Extract, extract, extractBlocks}
 use Rattle.keeper.specs.FastPool.{stirred}
 use Rattle.keeper.specs.Generator.{xorAt, ontoKey, Stream, stream, generated}
-use Rattle.keeper.specs.Record.{timersOf, deviceTimer, inputPool, blockingPool, keeperOf, withLedger, withTimer, withInputPool, withBlockingPool, withFast, withGenerator, view, fine, Outcome, refused, finished}
+use Rattle.keeper.specs.Record.{timersIn, deviceTimer, inputPool, blockingPool, keeperOf, withLedger, withTimer, withInputPool, withBlockingPool, withFast, withGenerator, view, fine, Outcome, refused, finished}
 use Rattle.keeper.specs.Calls.{Call, deviceEvent, interrupted, written, seededWith, generatorRead, blockingReadOf, public, eventBytes, stirredBy, payload}
 use Rattle.keeper.specs.Narrative.{mixInput, recountInput, recountBlocking, debitInput, rekey, reseed, creditInput, eventCall, interruptCall, writeCall, seedCall, generate, readCall, transfer, deliver, blockingCall, act, told}
 use Rattle.keeper.specs.Obey.{obey, step}
@@ -93,7 +93,7 @@ base : Bool → Bool → Timer → Ledger → Call → Keeper → Keeper
 base keeps stirs t l c k =
     let f = pick stirs (stirredBy c (k .fast)) (k .fast) in
     let i = mix inputShape (inputPool k) (payload c f) in
-    keeperOf (withSpots (i .spot) (k .ledger .blocking .spot) l) (pick keeps (kept (deviceOf (public c)) t (timersOf k)) (timersOf k)) (i .words) (k .blocking) f (k .generator)
+    keeperOf (withSpots (i .spot) (k .ledger .blocking .spot) l) (pick keeps (kept (deviceOf (public c)) t (timersIn k)) (timersIn k)) (i .words) (k .blocking) f (k .generator)
 
 -- a plan that feeds
 feeding : ℕ → Bool → Bool → Timer → Ledger → ℕ → ℕ → Plan

@@ -22,7 +22,7 @@ use Rattle.pool.specs.Extracting.{extract}
 use Rattle.pool.proofs.Extracted.{mix-spot, extract-spot, extract-length, extract-runs}
 use Rattle.keeper.specs.FastPool.{stirred}
 use Rattle.keeper.specs.Generator.{ontoKey, generated}
-use Rattle.keeper.specs.Record.{timersOf, inputPool, blockingPool, view, Outcome}
+use Rattle.keeper.specs.Record.{timersIn, inputPool, blockingPool, view, Outcome}
 use Rattle.keeper.specs.Calls.{Call, deviceEvent, interrupted, written, seededWith, generatorRead, blockingReadOf, public, stirredBy, payload}
 use Rattle.keeper.specs.Narrative.{told}
 use Rattle.keeper.specs.Obey.{obey, step}
@@ -90,7 +90,7 @@ obey-shadow c p k w =
     let runs = ap₂ _+_ (ap₂ _+_ (extract-runs inputShape (p .reseed) i) (extract-runs inputShape (p .transfer) (r .pool))) (extract-runs blockingShape (p .deliver) b) in
     let made = generated-blocks (p .stream) x in
     λ j. record {
-      view = record { ledger = withSpots (into j) (out j) (p .ledger); timers = timersAfter (deviceOf (public c)) p (timersOf k); fixed = top j };
+      view = record { ledger = withSpots (into j) (out j) (p .ledger); timers = timersAfter (deviceOf (public c)) p (timersIn k); fixed = top j };
       answer = record { number = p .number; delivered = given j; blocks = made j; compressions = runs j };
     }
 

@@ -11,7 +11,7 @@ use Rattle.ledger.specs.declared.Plan.{Plan}
 use Rattle.pool.specs.Mixing.{Pool, mix}
 use Rattle.pool.specs.Extracting.{Extract, extract}
 use Rattle.keeper.specs.Generator.{ontoKey, Stream, generated}
-use Rattle.keeper.specs.Record.{timersOf, inputPool, blockingPool, keeperOf, view, Outcome}
+use Rattle.keeper.specs.Record.{timersIn, inputPool, blockingPool, keeperOf, view, Outcome}
 use Rattle.keeper.specs.Calls.{Call, public, stirredBy, payload}
 use Rattle.keeper.specs.declared.Keeper.{Keeper}
 
@@ -42,7 +42,7 @@ fromGenerator c p k = generated (p .stream) (ontoKey ((forReseed c p k) .bytes) 
 abbrev pub obeyed : Call → Plan → Keeper → Keeper
 obeyed c p k =
     keeperOf (withSpots ((forTransfer c p k) .pool .spot) ((forDelivery c p k) .pool .spot) (p .ledger))
-    (timersAfter (deviceOf (public c)) p (timersOf k))
+    (timersAfter (deviceOf (public c)) p (timersIn k))
     ((forTransfer c p k) .pool .words)
     ((forDelivery c p k) .pool .words)
     (fastAfter c p k)

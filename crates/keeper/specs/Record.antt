@@ -18,11 +18,11 @@ use Rattle.pool.specs.Mixing.{Pool}
 use Rattle.keeper.specs.declared.Keeper.{Keeper}
 
 -- ---- parts of the record
-abbrev pub timersOf : Keeper → Timers
-timersOf k = record { clocks = k .clocks; firsts = k .firsts; seconds = k .seconds }
+abbrev pub timersIn : Keeper → Timers
+timersIn k = record { clocks = k .clocks; firsts = k .firsts; seconds = k .seconds }
 
 abbrev pub deviceTimer : Keeper → ℕ → Timer
-deviceTimer k = timerOf (timersOf k)
+deviceTimer k = timerOf (timersIn k)
 
 abbrev pub inputPool : Keeper → Pool
 inputPool k = record { words = k .input; spot = k .ledger .input .spot }
@@ -36,22 +36,22 @@ keeperOf l ts input blocking fast generator =
     record { ledger = l; clocks = ts .clocks; firsts = ts .firsts; seconds = ts .seconds; input = input; blocking = blocking; fast = fast; generator = generator }
 
 abbrev pub withLedger : Ledger → Keeper → Keeper
-withLedger l k = keeperOf l (timersOf k) (k .input) (k .blocking) (k .fast) (k .generator)
+withLedger l k = keeperOf l (timersIn k) (k .input) (k .blocking) (k .fast) (k .generator)
 
 abbrev pub withTimer : ℕ → Timer → Keeper → Keeper
-withTimer device t k = keeperOf (k .ledger) (kept device t (timersOf k)) (k .input) (k .blocking) (k .fast) (k .generator)
+withTimer device t k = keeperOf (k .ledger) (kept device t (timersIn k)) (k .input) (k .blocking) (k .fast) (k .generator)
 
 abbrev pub withInputPool : Pool → Keeper → Keeper
-withInputPool p k = keeperOf (withInput (placing (p .spot) (k .ledger .input)) (k .ledger)) (timersOf k) (p .words) (k .blocking) (k .fast) (k .generator)
+withInputPool p k = keeperOf (withInput (placing (p .spot) (k .ledger .input)) (k .ledger)) (timersIn k) (p .words) (k .blocking) (k .fast) (k .generator)
 
 abbrev pub withBlockingPool : Pool → Keeper → Keeper
-withBlockingPool p k = keeperOf (withBlocking (placing (p .spot) (k .ledger .blocking)) (k .ledger)) (timersOf k) (k .input) (p .words) (k .fast) (k .generator)
+withBlockingPool p k = keeperOf (withBlocking (placing (p .spot) (k .ledger .blocking)) (k .ledger)) (timersIn k) (k .input) (p .words) (k .fast) (k .generator)
 
 abbrev pub withFast : List ℕ → Keeper → Keeper
-withFast f k = keeperOf (k .ledger) (timersOf k) (k .input) (k .blocking) f (k .generator)
+withFast f k = keeperOf (k .ledger) (timersIn k) (k .input) (k .blocking) f (k .generator)
 
 abbrev pub withGenerator : List ℕ → Keeper → Keeper
-withGenerator g k = keeperOf (k .ledger) (timersOf k) (k .input) (k .blocking) (k .fast) g
+withGenerator g k = keeperOf (k .ledger) (timersIn k) (k .input) (k .blocking) (k .fast) g
 
 -- ---- a fresh keeper: all zero, unseeded, but for the generator's words
 abbrev pub fresh : List ℕ → Keeper
@@ -59,7 +59,7 @@ fresh start = keeperOf freshLedger freshTimers (replicate inputWords 0) (replica
 
 -- ---- what is public of a record, and its range test
 abbrev pub view : Keeper → View
-view k = record { ledger = k .ledger; timers = timersOf k; fixed = take 4 (k .generator) }
+view k = record { ledger = k .ledger; timers = timersIn k; fixed = take 4 (k .generator) }
 
 abbrev pub fine : Keeper → Bool
 fine k = inRange (view k)

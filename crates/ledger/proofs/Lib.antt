@@ -5,3 +5,4 @@ pub mod InRange
 pub mod Blocking
 pub mod Still
 pub mod Marked
+pub mod SmallPlans

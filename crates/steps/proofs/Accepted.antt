@@ -1,84 +1,44 @@
 -- Plans that answer 0, call by call: the record is in range, and which parts of the plan do something.
-use mathlib.Core.Path.{_≡_, refl, sym, ap₂}
-use mathlib.Core.Bool.{Bool, true, false, _&&_, not}
-use Prim.Native.Nat.{ℕ, _+_, _*_, _≤_, _<_, min, max}
+use mathlib.Core.Path.{_≡_, refl, sym, ap, ap₂, _∙_}
+use mathlib.Core.Bool.{Bool, true, false, _&&_}
+use Prim.Native.Nat.{ℕ, _≤_, _<_}
 use native.Mathlib.Omega.{arith}
-use lib.Dec.{ltb, eqb}
-use lib.ListN.{length, take}
-use borrow.Author.Tests.{ltb-false, eqb-true}
+use lib.Dec.{ltb, leb, eqb}
+use borrow.Author.Tests.{ltb-false, leb-false, eqb-true}
 use Rattle.ledger.specs.Choice.{pick}
-use Rattle.ledger.specs.Shapes.{inputShape, blockingShape}
-use Rattle.ledger.specs.Credits.{reseedTakes}
-use Rattle.ledger.specs.Marks.{inputCount, inputSpot, blockingSpot, lastValue, isSeeded, stays, blocks}
-use Rattle.ledger.specs.Range.{ledgerInRange, restInRange, inRange}
+use Rattle.ledger.specs.Sizes.{devices, inputWords, blockingWords, longest}
+use Rattle.ledger.specs.Timers.{freshTimer, timerOf}
+use Rattle.ledger.specs.Range.{View, ledgerInRange, timerInRange, othersInRange, inRange}
 use Rattle.ledger.specs.PublicCalls.{PublicCall, event, interrupt, write, seed, read, blockingRead, deviceOf}
-use Rattle.ledger.specs.Plans.{freshTimer, rest, firstSeeding, feed, transferred, refilled, planEvent, planInterrupt, planWrite, planSeed, planRead, planBlockingRead, planCall, decide}
-use Rattle.ledger.specs.Machine.{View, timerOf, planAt}
+use Rattle.ledger.specs.Plans.{idle, feed, transferred, refilled, planEvent, planInterrupt, planWrite, planSeed, planRead, planBlockingRead, planCall, decide}
+use Rattle.ledger.specs.Machine.{planAt}
 use Rattle.ledger.specs.declared.Ledger.{Ledger}
 use Rattle.ledger.specs.declared.Plan.{Plan}
 use Rattle.ledger.specs.declared.Timer.{Timer}
-use Rattle.ledger.proofs.Picks.{pick-both, pick-by}
+use Rattle.ledger.proofs.Picks.{pick-both, pick-by, and-left, and-right}
 use Rattle.ledger.proofs.Crediting.{taken-wanted}
-use Rattle.ledger.proofs.InRange.{Fine, viewInRange, fine, seen-range, plan-at-is}
+use Rattle.ledger.proofs.InRange.{LedgerFine, ledger-fine, seen-range}
 use Rattle.mixer.specs.Sizes.{InPool}
 use Rattle.mixer.proofs.Mixes.{in-input, in-blocking}
-use Rattle.steps.specs.Promise.{Small}
-
--- ---- every plan is small
-none : (n : ℕ) (l : Ledger) → Small (rest n l)
-none n l = record { reseed = omega arith; transfer = omega arith; deliver = omega arith; stream = omega arith }
-
-reseeds-few : (t : Bool) (count : ℕ) → pick t (reseedTakes count) 0 ≤ 32
-reseeds-few t count = pick-both (λ (n : ℕ). n ≤ 32) t (taken-wanted 32 16 count) (omega arith)
-
-feed-small : (now : ℕ) (stirs : Bool) (n : ℕ) (l : Ledger) → Small (feed now stirs n l)
-unfolding feed firstSeeding
-feed-small now stirs n l = record { reseed = reseeds-few _ _; transfer = omega arith; deliver = omega arith; stream = omega arith }
-
-transfer-few : (n : ℕ) (l : Ledger) → transferred n l ≤ 128
-transfer-few n l =
-    let w = taken-wanted (min (max n 8) 128) 8 (inputCount l) in
-    pick-both (λ (t : ℕ). t ≤ 128) _ (omega (arith, w)) (omega arith)
-
-call-small : (l : Ledger) (t : Timer) (c : PublicCall) → Small (planCall l t c)
-unfolding planCall planEvent planInterrupt planWrite planSeed planRead planBlockingRead
-call-small l t (event device now value) =
-    let f = feed-small now false _ _ in
-    pick-both Small _ (none 4 l) (pick-both Small _ (none 7 l) (record { reseed = f .reseed; transfer = f .transfer; deliver = f .deliver; stream = f .stream }))
-call-small l t (interrupt now number) =
-    pick-both Small _ (record { reseed = omega arith; transfer = omega arith; deliver = omega arith; stream = omega arith }) (feed-small now true 1 _)
-call-small l t (write len) =
-    pick-both Small _ (none 3 l) (record { reseed = omega arith; transfer = omega arith; deliver = omega arith; stream = omega arith })
-call-small l t (seed now len credit) = pick-both Small _ (none 3 l) (pick-both Small _ (none 5 l) (feed-small now false credit l))
-call-small l t (read now len) =
-    pick-by Small (ltb 4096 len) (λ h. none 3 l) (λ h. let e = ltb-false 4096 len h in
-    pick-both Small _ (none 0 l) (pick-both Small _ (none 2 l)
-    (record { reseed = reseeds-few _ _; transfer = omega arith; deliver = omega arith; stream = e })))
-call-small l t (blockingRead n) =
-    pick-by Small (ltb 4096 n) (λ h. none 3 l) (λ h. let e = ltb-false 4096 n h in
-    pick-both Small _ (none 0 l) (pick-both Small _ (none 1 l)
-    (record { reseed = omega arith; transfer = transfer-few n l; deliver = omega (arith, taken-wanted n 0 (refilled (transferred n l) l)); stream = omega arith })))
-
-pub small : (others : Bool) (l : Ledger) (t : Timer) (c : PublicCall) → Small (decide others l t c)
-unfolding decide
-small others l t c = pick-both Small _ (call-small l t c) (none 17 l)
 
 -- ---- a plan that answers 0 is one of a record in range
 pub record Pools (l : Ledger) : Type 0 where
-  pub input : InPool 128 (inputSpot l)
-  pub blocking : InPool 32 (blockingSpot l)
+  pub input : InPool inputWords (l .input .spot)
+  pub blocking : InPool blockingWords (l .blocking .spot)
 
-pools : (v : View) → Fine v → Pools (v .ledger)
-pools v f =
-    record {
-      input = in-input (inputSpot (v .ledger)) (f .inputPlace .at) (f .inputPlace .turn);
-      blocking = in-blocking (blockingSpot (v .ledger)) (f .blockingPlace .at) (f .blockingPlace .turn);
-    }
+pools : (l : Ledger) → LedgerFine l → Pools l
+pools l f =
+    let i = f .input .placed in
+    let b = f .blocking .placed in
+    record { input = in-input (l .input .spot) (i .at) (i .turn); blocking = in-blocking (l .blocking .spot) (b .at) (b .turn) }
 
-pub accepted-pools : (v : View) (c : PublicCall) → (planAt v c) .number ≡ 0 → Pools (v .ledger)
-accepted-pools v c =
-    let P : Plan → Type 0 = λ (p : Plan). p .number ≡ 0 → Pools (v .ledger) in
-    rw (plan-at-is v c) (pick-by P (viewInRange v) (λ h e. pools v (fine v h)) (λ h e. absurd (omega (arith, e))))
+pub in-pools : (others : Bool) (l : Ledger) (t : Timer) (c : PublicCall) (p : Plan) → p ≡ decide others l t c → p .number ≡ 0 → Pools l
+unfolding decide
+in-pools others l t c p e z =
+    let P : Plan → Type 0 = λ (q : Plan). q .number ≡ 0 → Pools l in
+    let i = ledgerInRange l in
+    let j = timerInRange t in
+    pick-by P (others && (i && j)) (λ h n. pools l (ledger-fine l (and-left i j (and-right others (i && j) h)))) (λ h n. absurd (omega (arith, n))) (ap (λ (q : Plan). q .number) (sym e) ∙ z)
 
 -- ---- what is decided with any timer in range is what the plan at a view is, for a call that has no device
 agree : (r l t : Bool) → (r && (l && t)) ≡ (l && r) → (r && (l && true)) ≡ (r && (l && t))
@@ -87,12 +47,12 @@ agree true false t h = refl
 agree false l t h = refl
 
 pub any-timer : (v : View) (c : PublicCall)
-    → planCall (v .ledger) freshTimer c ≡ planCall (v .ledger) (timerOf (v .clocks) (v .firsts) (v .seconds) (deviceOf c)) c
-    → decide (restInRange (v .firsts) (v .seconds) (v .fixed)) (v .ledger) freshTimer c ≡ planAt v c
+    → planCall (v .ledger) freshTimer c ≡ planCall (v .ledger) (timerOf (v .timers) (deviceOf c)) c
+    → decide (othersInRange (v .timers) (v .fixed)) (v .ledger) freshTimer c ≡ planAt v c
 unfolding decide inRange
 any-timer v c e =
-    ap₂ (λ (b : Bool) (p : Plan). pick b p (rest 17 (v .ledger)))
-    (agree (restInRange (v .firsts) (v .seconds) (v .fixed)) (ledgerInRange (v .ledger)) _ (seen-range v (deviceOf c)))
+    ap₂ (λ (b : Bool) (p : Plan). pick b p (idle 17 (v .ledger)))
+    (agree (othersInRange (v .timers) (v .fixed)) (ledgerInRange (v .ledger)) _ (seen-range v (deviceOf c)))
     e
 
 -- ---- the shapes
@@ -104,7 +64,7 @@ pub record Feeds (p : Plan) : Type 0 where
 
 -- a device event that is accepted
 pub record EventPlan (device : ℕ) (p : Plan) : Type 0 where
-  pub device-small : device < 16
+  pub device-small : device < devices
   pub keeps : p .keeps ≡ true
   pub stirs : p .stirs ≡ false
   pub feeds : p .feeds ≡ true
@@ -131,7 +91,7 @@ pub record ReadPlan (len : ℕ) (p : Plan) : Type 0 where
   pub transfer : p .transfer ≡ 0
   pub deliver : p .deliver ≡ 0
   pub whole : p .stream ≡ len
-  pub short : len ≤ 4096
+  pub short : len ≤ longest
 
 -- a blocking read of len bytes
 pub record BlockingPlan (len : ℕ) (p : Plan) : Type 0 where
@@ -147,8 +107,12 @@ abbrev Where0 : (Plan → Type 0) → Plan → Type 0
 Where0 P p = p .number ≡ 0 → P p
 
 -- a refusal is not answered 0
-other : (P : Plan → Type 0) (n : ℕ) (l : Ledger) → 1 ≤ n → Where0 P (rest n l)
+other : (P : Plan → Type 0) (n : ℕ) (l : Ledger) → 1 ≤ n → Where0 P (idle n l)
 other P n l h e = absurd (omega (arith, h, e))
+
+-- what holds of a plan so decided holds of one that equals it
+pub so : (P : Plan → Type 0) {p q : Plan} → p ≡ q → Where0 P q → p .number ≡ 0 → P p
+so P e h = rw e h
 
 in-or-out : (P : Plan → Type 0) (others : Bool) (l : Ledger) (t : Timer) (c : PublicCall) → Where0 P (planCall l t c) → Where0 P (decide others l t c)
 unfolding decide
@@ -159,7 +123,7 @@ unfolding planCall planEvent feed
 event-plan others l t device now value =
     let P = EventPlan device in
     in-or-out P others l t (event device now value)
-    (pick-by (Where0 P) (ltb 15 device) (λ h. other P 4 l (omega arith)) (λ h. let d = ltb-false 15 device h in
+    (pick-by (Where0 P) (leb devices device) (λ h. other P 4 l (omega arith)) (λ h. let d = leb-false devices device h in
     pick-both (Where0 P) _ (other P 7 l (omega arith))
     (λ e. record { device-small = omega arith; keeps = refl; stirs = refl; feeds = refl; rest-still = record { transfer = refl; deliver = refl; stream = refl } })))
 
@@ -199,7 +163,7 @@ unfolding planCall planRead
 read-plan others l t now len =
     let P = ReadPlan len in
     in-or-out P others l t (read now len)
-    (pick-by (Where0 P) (ltb 4096 len) (λ h. other P 3 l (omega arith)) (λ h. let s = ltb-false 4096 len h in
+    (pick-by (Where0 P) (ltb longest len) (λ h. other P 3 l (omega arith)) (λ h. let s = ltb-false longest len h in
     pick-by (Where0 P) (eqb len 0)
     (λ z e. record { keeps = refl; stirs = refl; feeds = refl; transfer = refl; deliver = refl; whole = sym (eqb-true len 0 z); short = s })
     (λ z. pick-both (Where0 P) _ (other P 2 l (omega arith))

@@ -7,20 +7,21 @@ use lib.ListN.{length, drop, length-append}
 use Rattle.words.specs.Bytes.{bytesWords}
 use Rattle.ledger.specs.Choice.{pick}
 use Rattle.ledger.specs.Shapes.{Shape, inputShape, blockingShape}
-use Rattle.ledger.specs.Marks.{blockingSpot, withSpots}
+use Rattle.ledger.specs.Marks.{withSpots}
 use Rattle.ledger.specs.PublicCalls.{deviceOf}
-use Rattle.ledger.specs.Machine.{kept}
+use Rattle.ledger.specs.Plans.{answerOf}
+use Rattle.ledger.specs.Machine.{timersAfter}
 use Rattle.ledger.specs.declared.Plan.{Plan}
 use Rattle.pool.specs.Mixing.{Pool, mix}
 use Rattle.pool.specs.Extracting.{Extract, extractBlocks, extract}
 use Rattle.pool.proofs.Extracted.{extract-length, extract-runs}
 use Rattle.keeper.specs.Generator.{xorAt, ontoKey, Stream, stream, generated}
-use Rattle.keeper.specs.Record.{inputPool, blockingPool, roomAfter}
+use Rattle.keeper.specs.Record.{timersIn, inputPool, blockingPool, keeperOf, roomAfter}
 use Rattle.keeper.specs.Calls.{Call, public, stirredBy, payload}
 use Rattle.keeper.specs.Obey.{fastAfter, forReseed, forTransfer, forDelivery, fromGenerator, obey}
 use Rattle.keeper.specs.declared.Keeper.{Keeper}
 use Rattle.keeper.proofs.Counter.{generated-blocks}
-use Rattle.steps.specs.Promise.{left, over, keeperOf, answerOf}
+use Rattle.steps.specs.Promise.{left, over}
 use Rattle.steps.proofs.Accepted.{Feeds}
 
 -- ---- the answer is what the plan says
@@ -62,10 +63,8 @@ pub fed : (c : Call) (p : Plan) (k : Keeper) (room : List ℕ) → Feeds p
     → over room (obey c p k)
     ≡ left
     (keeperOf
-    (withSpots ((forReseed c p k) .pool .spot) (blockingSpot (k .ledger)) (p .ledger))
-    (kept p (deviceOf (public c)) (p .timer .clock) (k .clocks))
-    (kept p (deviceOf (public c)) (p .timer .d1) (k .firsts))
-    (kept p (deviceOf (public c)) (p .timer .d2) (k .seconds))
+    (withSpots ((forReseed c p k) .pool .spot) (k .ledger .blocking .spot) (p .ledger))
+    (timersAfter (deviceOf (public c)) p (timersIn k))
     ((forReseed c p k) .pool .words)
     (k .blocking)
     (fastAfter c p k)
@@ -82,9 +81,7 @@ fed c p k room f =
     λ j. record {
       keeper =
           keeperOf (withSpots ((t j) .pool .spot) ((b j) .pool .spot) (p .ledger))
-          (kept p (deviceOf (public c)) (p .timer .clock) (k .clocks))
-          (kept p (deviceOf (public c)) (p .timer .d1) (k .firsts))
-          (kept p (deviceOf (public c)) (p .timer .d2) (k .seconds))
+          (timersAfter (deviceOf (public c)) p (timersIn k))
           ((t j) .pool .words)
           ((b j) .pool .words)
           (fastAfter c p k)
@@ -98,10 +95,8 @@ pub streamed : (c : Call) (p : Plan) (k : Keeper) (room : List ℕ) → p .trans
     → over room (obey c p k)
     ≡ left
     (keeperOf
-    (withSpots ((forReseed c p k) .pool .spot) (blockingSpot (k .ledger)) (p .ledger))
-    (kept p (deviceOf (public c)) (p .timer .clock) (k .clocks))
-    (kept p (deviceOf (public c)) (p .timer .d1) (k .firsts))
-    (kept p (deviceOf (public c)) (p .timer .d2) (k .seconds))
+    (withSpots ((forReseed c p k) .pool .spot) (k .ledger .blocking .spot) (p .ledger))
+    (timersAfter (deviceOf (public c)) p (timersIn k))
     ((forReseed c p k) .pool .words)
     (k .blocking)
     (fastAfter c p k)
@@ -118,9 +113,7 @@ streamed c p k room et ed w =
     λ j. record {
       keeper =
           keeperOf (withSpots ((t j) .pool .spot) ((b j) .pool .spot) (p .ledger))
-          (kept p (deviceOf (public c)) (p .timer .clock) (k .clocks))
-          (kept p (deviceOf (public c)) (p .timer .d1) (k .firsts))
-          (kept p (deviceOf (public c)) (p .timer .d2) (k .seconds))
+          (timersAfter (deviceOf (public c)) p (timersIn k))
           ((t j) .pool .words)
           ((b j) .pool .words)
           (fastAfter c p k)
@@ -144,9 +137,7 @@ pub delivered : (c : Call) (p : Plan) (k : Keeper) (room : List ℕ) → p .rese
     ≡ left
     (keeperOf
     (withSpots ((forTransfer c p k) .pool .spot) ((forDelivery c p k) .pool .spot) (p .ledger))
-    (kept p (deviceOf (public c)) (p .timer .clock) (k .clocks))
-    (kept p (deviceOf (public c)) (p .timer .d1) (k .firsts))
-    (kept p (deviceOf (public c)) (p .timer .d2) (k .seconds))
+    (timersAfter (deviceOf (public c)) p (timersIn k))
     ((forTransfer c p k) .pool .words)
     ((forDelivery c p k) .pool .words)
     (fastAfter c p k)
@@ -165,9 +156,7 @@ delivered c p k room er es =
     λ j. record {
       keeper =
           keeperOf (withSpots (t .pool .spot) (b .pool .spot) (p .ledger))
-          (kept p (deviceOf (public c)) (p .timer .clock) (k .clocks))
-          (kept p (deviceOf (public c)) (p .timer .d1) (k .firsts))
-          (kept p (deviceOf (public c)) (p .timer .d2) (k .seconds))
+          (timersAfter (deviceOf (public c)) p (timersIn k))
           (t .pool .words)
           (b .pool .words)
           (fastAfter c p k)

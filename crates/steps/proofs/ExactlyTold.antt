@@ -12,7 +12,7 @@ use Rattle.keeper.specs.Record.{fine}
 use Rattle.keeper.specs.Calls.{Call, public, blockingReadOf}
 use Rattle.keeper.specs.Narrative.{told}
 use Rattle.keeper.specs.declared.Keeper.{Keeper}
-use Rattle.keeper.specs.declared.Answer.{Answer}
+use Rattle.ledger.specs.declared.Answer.{Answer}
 use Rattle.keeper.proofs.Refusals.{delivered, room-length}
 use Rattle.keeper.proofs.Blocks.{demand-2}
 use Rattle.steps.specs.Promise.{Left, leaves, Told}

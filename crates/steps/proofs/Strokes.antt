@@ -5,16 +5,17 @@ use mathlib.Core.Bool.{Bool, true, false}
 use mathlib.Core.List.{List, [], _++_, append-nil}
 use Prim.Native.Nat.{ℕ, _≤_}
 use native.Mathlib.Omega.{arith}
-use lib.IntN.{ℤ}
-use lib.ListN.{length, set, take, drop, drop-of-length-le}
+use lib.ListN.{length, take, drop, drop-of-length-le}
 use Rattle.words.specs.Bytes.{wordsBytes, bytesWords}
 use Rattle.ledger.specs.Choice.{pick}
 use Rattle.ledger.specs.Shapes.{Shape, inputShape, blockingShape}
-use Rattle.ledger.specs.Marks.{inputSpot, blockingSpot, withSpots}
-use Rattle.ledger.specs.Range.{restInRange}
+use Rattle.ledger.specs.Marks.{withSpots}
+use Rattle.ledger.specs.Range.{othersInRange}
 use Rattle.ledger.specs.PublicCalls.{PublicCall, event, interrupt, write, seed, read, blockingRead, deviceOf}
-use Rattle.ledger.specs.Plans.{freshTimer, planCall, decide}
-use Rattle.ledger.specs.Machine.{timerOf, kept, planAt}
+use Rattle.ledger.specs.Sizes.{inputWords, blockingWords}
+use Rattle.ledger.specs.Timers.{Timers, timersOf, freshTimer, timerOf, kept}
+use Rattle.ledger.specs.Plans.{planCall, decide, answerOf}
+use Rattle.ledger.specs.Machine.{timersAfter, planAt}
 use Rattle.ledger.specs.declared.Ledger.{Ledger}
 use Rattle.ledger.specs.declared.Plan.{Plan}
 use Rattle.ledger.specs.declared.Timer.{Timer}
@@ -25,25 +26,33 @@ use Rattle.pool.proofs.Extracted.{mix-length, extract-length}
 use Rattle.mixer.specs.Sizes.{shapeOf, InPool}
 use Rattle.keeper.specs.FastPool.{stirred}
 use Rattle.keeper.specs.Generator.{xorAt, ontoKey, Stream, generated}
-use Rattle.keeper.specs.Record.{inputPool, blockingPool, view, Outcome, refused, roomAfter}
+use Rattle.keeper.specs.Record.{timersIn, inputPool, blockingPool, keeperOf, view, Outcome, refused, roomAfter}
 use Rattle.keeper.specs.Calls.{Call, deviceEvent, interrupted, written, seededWith, generatorRead, blockingReadOf, public, eventBytes}
 use Rattle.keeper.specs.Narrative.{told}
 use Rattle.keeper.specs.Obey.{fastAfter, forReseed, forTransfer, forDelivery, fromGenerator, obey, step}
 use Rattle.keeper.specs.declared.Keeper.{Keeper}
-use Rattle.keeper.specs.declared.Answer.{Answer}
+use Rattle.ledger.specs.declared.Answer.{Answer}
 use Rattle.keeper.proofs.Counter.{key-length, generated-length}
 use Rattle.keeper.proofs.Same.{same}
 use Rattle.keeper.proofs.Refusals.{demand-1}
-use Rattle.steps.specs.Promise.{Left, left, over, keeperOf, leaves, answerOf}
-use Rattle.steps.proofs.Accepted.{Pools, accepted-pools, any-timer, EventPlan, InterruptPlan, FedPlan, WritePlan, ReadPlan, BlockingPlan}
+use Rattle.steps.specs.Promise.{Left, left, over, leaves}
+use Rattle.steps.proofs.Accepted.{any-timer, EventPlan, InterruptPlan, FedPlan, WritePlan, ReadPlan, BlockingPlan}
 use Rattle.steps.proofs.Carried.{none-taken, fed, streamed, delivered, in-front}
 
 -- ---- the plan
+-- a plan is the one at a record. Which record is then told by the type
+pub record Planned (k : Keeper) (c : PublicCall) (p : Plan) : Type 0 where
+  pub is : p ≡ planAt (view k) c
+
+-- the test of what the ledger does not hold, as the code makes it: whatever the clocks
+abbrev pub Others : Keeper → Bool → Type 0
+Others k others = (clocks : List ℕ) → others ≡ othersInRange (timersOf clocks (k .firsts) (k .seconds)) (take 4 (k .generator))
+
 -- an event is decided with its device's timer
 pub event-decided : (k : Keeper) (device now value : ℕ) (others : Bool) (t : Timer) (p : Plan)
-    → others ≡ restInRange (k .firsts) (k .seconds) (take 4 (k .generator)) → t ≡ timerOf (k .clocks) (k .firsts) (k .seconds) device
-    → p ≡ decide others (k .ledger) t (event device now value) → p ≡ planAt (view k) (event device now value)
-event-decided k device now value others t p eo et ep = ep ∙ ap₂ (λ (o : Bool) (u : Timer). decide o (k .ledger) u (event device now value)) eo et
+    → Others k others → t ≡ timerOf (timersIn k) device
+    → p ≡ decide others (k .ledger) t (event device now value) → Planned k (event device now value) p
+event-decided k device now value others t p eo et ep = record { is = ep ∙ ap₂ (λ (o : Bool) (u : Timer). decide o (k .ledger) u (event device now value)) (eo (k .clocks)) et }
 
 -- a call that has no device is decided without a timer
 abbrev pub Untimed : PublicCall → Type 0
@@ -71,67 +80,62 @@ blocking-untimed len l t u = refl
 
 -- .. which is the plan at the record
 pub decided : (k : Keeper) (c : PublicCall) (others : Bool) (p : Plan)
-    → Untimed c → others ≡ restInRange (k .firsts) (k .seconds) (take 4 (k .generator))
-    → p ≡ decide others (k .ledger) freshTimer c → p ≡ planAt (view k) c
-decided k c others p e eo ep = ep ∙ ap (λ (o : Bool). decide o (k .ledger) freshTimer c) eo ∙ any-timer (view k) c (e (k .ledger) _ _)
-
--- where it answers 0, both pools are in range
-pub in-pools : (k : Keeper) (c : PublicCall) (p : Plan) → p ≡ planAt (view k) c → p .number ≡ 0 → Pools (k .ledger)
-in-pools k c p e z = accepted-pools (view k) c (ap (λ (q : Plan). q .number) (sym e) ∙ z)
+    → Untimed c → Others k others → p ≡ decide others (k .ledger) freshTimer c → Planned k c p
+decided k c others p e eo ep = record { is = ep ∙ ap (λ (o : Bool). decide o (k .ledger) freshTimer c) (eo (k .clocks)) ∙ any-timer (view k) c (e (k .ledger) _ _) }
 
 -- ---- a refusal
-pub refusal : (k : Keeper) (c : Call) (room : List ℕ) (p : Plan) → p ≡ planAt (view k) (public c) → (p .number ≡ 0 → ⊥)
+pub refusal : (k : Keeper) (c : Call) (room : List ℕ) (p : Plan) → Planned k (public c) p → (p .number ≡ 0 → ⊥)
     → left k (record { number = p .number; delivered = 0; blocks = 0; compressions = 0 }) room ≡ leaves k c room
 unfolding leaves step obey
 refusal k c room p e h =
-    let n : (told k c) .answer .number ≡ p .number = ap (λ (o : Outcome). o .answer .number) (same k c) ∙ ap (λ (q : Plan). q .number) (sym e) in
+    let n : (told k c) .answer .number ≡ p .number = ap (λ (o : Outcome). o .answer .number) (same k c) ∙ ap (λ (q : Plan). q .number) (sym (e .is)) in
     sym (ap (over room) (demand-1 k c (λ z. h (sym n ∙ z))) ∙ ap (λ (m : ℕ). over room (refused m k)) n)
 
 -- ---- what is not refused
-accepted : (k : Keeper) (c : Call) (room : List ℕ) (p : Plan) → p ≡ planAt (view k) (public c) → leaves k c room ≡ over room (obey c p k)
+accepted : (k : Keeper) (c : Call) (room : List ℕ) (p : Plan) → Planned k (public c) p → leaves k c room ≡ over room (obey c p k)
 unfolding leaves step
-accepted k c room p e = ap (over room) (same k c ∙ ap (λ (q : Plan). obey c q k) (sym e))
+accepted k c room p e = ap (over room) (same k c ∙ ap (λ (q : Plan). obey c q k) (sym (e .is)))
 
 -- part by part
-parts : {l m : Ledger} {cs ds : List ℕ} {fs gs ss ts : List ℤ} {i j b d f g x y : List ℕ} {a : Answer} {u v : List ℕ}
-    → l ≡ m → cs ≡ ds → fs ≡ gs → ss ≡ ts → i ≡ j → b ≡ d → f ≡ g → x ≡ y → u ≡ v
-    → left (keeperOf l cs fs ss i b f x) a u ≡ left (keeperOf m ds gs ts j d g y) a v
-parts {a = a} el ec ef es ei eb et eg er = λ n. left (keeperOf (el n) (ec n) (ef n) (es n) (ei n) (eb n) (et n) (eg n)) a (er n)
+parts : {l m : Ledger} {ts us : Timers} {i j b d f g x y : List ℕ} {a : Answer} {u v : List ℕ}
+    → l ≡ m → ts ≡ us → i ≡ j → b ≡ d → f ≡ g → x ≡ y → u ≡ v
+    → left (keeperOf l ts i b f x) a u ≡ left (keeperOf m us j d g y) a v
+parts {a = a} el et ei eb ef eg er = λ n. left (keeperOf (el n) (et n) (ei n) (eb n) (ef n) (eg n)) a (er n)
 
 -- a pool of 128 words has the input pool's shape, one of 32 the blocking pool's
-shape-128 : (n : ℕ) → n ≡ 128 → shapeOf n ≡ inputShape
+shape-128 : (n : ℕ) → n ≡ inputWords → shapeOf n ≡ inputShape
 unfolding shapeOf pick
 shape-128 n e = rw e refl
 
-shape-32 : (n : ℕ) → n ≡ 32 → shapeOf n ≡ blockingShape
+shape-32 : (n : ℕ) → n ≡ blockingWords → shapeOf n ≡ blockingShape
 unfolding shapeOf pick
 shape-32 n e = rw e refl
 
 -- bytes mixed into the input pool
-mixed : (ws xs : List ℕ) (s u : Spot) (bs : List ℕ) → length ws ≡ 128
+mixed : (ws xs : List ℕ) (s u : Spot) (bs : List ℕ) → length ws ≡ inputWords
     → _≡_ {A = Pool} (record { words = xs; spot = u }) (mix (shapeOf (length ws)) (record { words = ws; spot = s }) bs)
     → _≡_ {A = Pool} (record { words = xs; spot = u }) (mix inputShape (record { words = ws; spot = s }) bs)
 mixed ws xs s u bs h e = e ∙ ap (λ (sh : Shape). mix sh (record { words = ws; spot = s }) bs) (shape-128 (length ws) h)
 
 -- it keeps its length
-pub mixed-128 : (ws xs : List ℕ) (s u : Spot) (bs : List ℕ) → length ws ≡ 128
+pub mixed-128 : (ws xs : List ℕ) (s u : Spot) (bs : List ℕ) → length ws ≡ inputWords
     → _≡_ {A = Pool} (record { words = xs; spot = u }) (mix (shapeOf (length ws)) (record { words = ws; spot = s }) bs)
-    → length xs ≡ 128
+    → length xs ≡ inputWords
 mixed-128 ws xs s u bs h e = ap (λ (q : Pool). length (q .words)) e ∙ mix-length (shapeOf (length ws)) (record { words = ws; spot = s }) bs ∙ h
 
 -- what a reseed makes of a pool, given as words and spot, or of one that equals it
-reseeded : (ws : List ℕ) (s : Spot) (q : Pool) (t : ℕ) → length ws ≡ 128 → _≡_ {A = Pool} (record { words = ws; spot = s }) q
+reseeded : (ws : List ℕ) (s : Spot) (q : Pool) (t : ℕ) → length ws ≡ inputWords → _≡_ {A = Pool} (record { words = ws; spot = s }) q
     → extract (shapeOf (length ws)) t (record { words = ws; spot = s }) ≡ extract inputShape t q
 reseeded ws s q t h e = ap₂ (λ (sh : Shape) (r : Pool). extract sh t r) (shape-128 (length ws) h) e
 
 -- a timer that is kept, and one that is not
-kept-on : {A : Type 0} (p : Plan) (d : ℕ) (x : A) (xs : List A) → p .keeps ≡ true → kept p d x xs ≡ set xs d x
+kept-on : (p : Plan) (d : ℕ) (ts : Timers) → p .keeps ≡ true → timersAfter d p ts ≡ kept d (p .timer) ts
 unfolding pick
-kept-on p d x xs e = rw e refl
+kept-on p d ts e = rw e refl
 
-kept-off : {A : Type 0} (p : Plan) (d : ℕ) (x : A) (xs : List A) → p .keeps ≡ false → kept p d x xs ≡ xs
+kept-off : (p : Plan) (d : ℕ) (ts : Timers) → p .keeps ≡ false → timersAfter d p ts ≡ ts
 unfolding pick
-kept-off p d x xs e = rw e refl
+kept-off p d ts e = rw e refl
 
 -- the fast pool of a call that does not stir it
 unstirred : (c : Call) (p : Plan) (k : Keeper) → p .stirs ≡ false → fastAfter c p k ≡ k .fast
@@ -144,22 +148,20 @@ event-takes : (p : Plan) (k : Keeper) (device now stamp value : ℕ) → p .feed
 unfolding pick
 event-takes p k device now stamp value e = rw e refl
 
-pub event-done : (k : Keeper) (device now stamp value : ℕ) (p : Plan) (clocks : List ℕ) (firsts seconds : List ℤ) (xs ys : List ℕ) (s u : Spot) (g : List ℕ)
+pub event-done : (k : Keeper) (device now stamp value : ℕ) (p : Plan) (ts : Timers) (xs ys : List ℕ) (s u : Spot) (g : List ℕ)
     → let e = extract (shapeOf (length xs)) (p .reseed) (record { words = xs; spot = s }) in
-    p ≡ planAt (view k) (event device now value) → EventPlan device p → length (k .input) ≡ 128
-    → clocks ≡ set (k .clocks) device (p .timer .clock) → firsts ≡ set (k .firsts) device (p .timer .d1) → seconds ≡ set (k .seconds) device (p .timer .d2)
+    Planned k (event device now value) p → EventPlan device p → length (k .input) ≡ inputWords
+    → ts ≡ kept device (p .timer) (timersIn k)
     → _≡_ {A = Pool} (record { words = xs; spot = s }) (mix (shapeOf (length (k .input))) (inputPool k) (eventBytes stamp now value))
     → ys ≡ e .pool .words → u ≡ e .pool .spot → g ≡ ontoKey (e .bytes) (k .generator)
-    → left (keeperOf (withSpots u (blockingSpot (k .ledger)) (p .ledger)) clocks firsts seconds ys (k .blocking) (k .fast) g) (answerOf p) []
+    → left (keeperOf (withSpots u (k .ledger .blocking .spot) (p .ledger)) ts ys (k .blocking) (k .fast) g) (answerOf p) []
     ≡ leaves k (deviceEvent device now stamp value) []
-event-done k device now stamp value p clocks firsts seconds xs ys s u g ep sh hw ec ef es em ey eu eg =
+event-done k device now stamp value p ts xs ys s u g ep sh hw et em ey eu eg =
     let c = deviceEvent device now stamp value in
     let q = mix inputShape (inputPool k) (eventBytes stamp now value) in
     let r = reseeded xs s q (p .reseed) (mixed-128 (k .input) xs _ s _ hw em) (mixed (k .input) xs _ s _ hw em) ∙ sym (event-takes p k device now stamp value (sh .feeds)) in
-    parts (ap (λ (v : Spot). withSpots v (blockingSpot (k .ledger)) (p .ledger)) (eu ∙ ap (λ (e : Extract). e .pool .spot) r))
-    (ec ∙ sym (kept-on p device (p .timer .clock) (k .clocks) (sh .keeps)))
-    (ef ∙ sym (kept-on p device (p .timer .d1) (k .firsts) (sh .keeps)))
-    (es ∙ sym (kept-on p device (p .timer .d2) (k .seconds) (sh .keeps)))
+    parts (ap (λ (v : Spot). withSpots v (k .ledger .blocking .spot) (p .ledger)) (eu ∙ ap (λ (e : Extract). e .pool .spot) r))
+    (et ∙ sym (kept-on p device (timersIn k) (sh .keeps)))
     (ey ∙ ap (λ (e : Extract). e .pool .words) r)
     refl
     (sym (unstirred c p k (sh .stirs)))
@@ -181,20 +183,18 @@ interrupt-stirs p k now number stamp address e = rw e refl
 
 pub interrupt-done : (k : Keeper) (now number stamp address : ℕ) (p : Plan) (fast xs ys : List ℕ) (s u : Spot) (g : List ℕ)
     → let e = extract (shapeOf (length xs)) (p .reseed) (record { words = xs; spot = s }) in
-    p ≡ planAt (view k) (interrupt now number) → InterruptPlan p → length (k .input) ≡ 128
+    Planned k (interrupt now number) p → InterruptPlan p → length (k .input) ≡ inputWords
     → fast ≡ stirred now number stamp address (k .fast)
     → _≡_ {A = Pool} (record { words = xs; spot = s }) (mix (shapeOf (length (k .input))) (inputPool k) (pick (p .feeds) (wordsBytes fast) []))
     → ys ≡ e .pool .words → u ≡ e .pool .spot → g ≡ ontoKey (e .bytes) (k .generator)
-    → left (keeperOf (withSpots u (blockingSpot (k .ledger)) (p .ledger)) (k .clocks) (k .firsts) (k .seconds) ys (k .blocking) fast g) (answerOf p) []
+    → left (keeperOf (withSpots u (k .ledger .blocking .spot) (p .ledger)) (timersIn k) ys (k .blocking) fast g) (answerOf p) []
     ≡ leaves k (interrupted now number stamp address) []
 interrupt-done k now number stamp address p fast xs ys s u g ep sh hw ef em ey eu eg =
     let c = interrupted now number stamp address in
     let m = mixed (k .input) xs _ s _ hw em ∙ ap (λ (f : List ℕ). mix inputShape (inputPool k) (pick (p .feeds) (wordsBytes f) [])) ef in
     let r = reseeded xs s _ (p .reseed) (mixed-128 (k .input) xs _ s _ hw em) m ∙ sym (interrupt-takes p k now number stamp address (sh .stirs)) in
-    parts (ap (λ (v : Spot). withSpots v (blockingSpot (k .ledger)) (p .ledger)) (eu ∙ ap (λ (e : Extract). e .pool .spot) r))
-    (sym (kept-off p 0 (p .timer .clock) (k .clocks) (sh .keeps)))
-    (sym (kept-off p 0 (p .timer .d1) (k .firsts) (sh .keeps)))
-    (sym (kept-off p 0 (p .timer .d2) (k .seconds) (sh .keeps)))
+    parts (ap (λ (v : Spot). withSpots v (k .ledger .blocking .spot) (p .ledger)) (eu ∙ ap (λ (e : Extract). e .pool .spot) r))
+    (sym (kept-off p 0 (timersIn k) (sh .keeps)))
     (ey ∙ ap (λ (e : Extract). e .pool .words) r)
     refl
     (ef ∙ sym (interrupt-stirs p k now number stamp address (sh .stirs)))
@@ -210,18 +210,16 @@ seed-takes p k now bs credit e = rw e refl
 
 pub seed-done : (k : Keeper) (now : ℕ) (bs : List ℕ) (credit : ℕ) (p : Plan) (xs ys : List ℕ) (s u : Spot) (g : List ℕ)
     → let e = extract (shapeOf (length xs)) (p .reseed) (record { words = xs; spot = s }) in
-    p ≡ planAt (view k) (seed now (length bs) credit) → FedPlan p → length (k .input) ≡ 128
+    Planned k (seed now (length bs) credit) p → FedPlan p → length (k .input) ≡ inputWords
     → _≡_ {A = Pool} (record { words = xs; spot = s }) (mix (shapeOf (length (k .input))) (inputPool k) bs)
     → ys ≡ e .pool .words → u ≡ e .pool .spot → g ≡ ontoKey (e .bytes) (k .generator)
-    → left (keeperOf (withSpots u (blockingSpot (k .ledger)) (p .ledger)) (k .clocks) (k .firsts) (k .seconds) ys (k .blocking) (k .fast) g) (answerOf p) []
+    → left (keeperOf (withSpots u (k .ledger .blocking .spot) (p .ledger)) (timersIn k) ys (k .blocking) (k .fast) g) (answerOf p) []
     ≡ leaves k (seededWith now bs credit) []
 seed-done k now bs credit p xs ys s u g ep sh hw em ey eu eg =
     let c = seededWith now bs credit in
     let r = reseeded xs s _ (p .reseed) (mixed-128 (k .input) xs _ s _ hw em) (mixed (k .input) xs _ s _ hw em) ∙ sym (seed-takes p k now bs credit (sh .feeds)) in
-    parts (ap (λ (v : Spot). withSpots v (blockingSpot (k .ledger)) (p .ledger)) (eu ∙ ap (λ (e : Extract). e .pool .spot) r))
-    (sym (kept-off p 0 (p .timer .clock) (k .clocks) (sh .keeps)))
-    (sym (kept-off p 0 (p .timer .d1) (k .firsts) (sh .keeps)))
-    (sym (kept-off p 0 (p .timer .d2) (k .seconds) (sh .keeps)))
+    parts (ap (λ (v : Spot). withSpots v (k .ledger .blocking .spot) (p .ledger)) (eu ∙ ap (λ (e : Extract). e .pool .spot) r))
+    (sym (kept-off p 0 (timersIn k) (sh .keeps)))
     (ey ∙ ap (λ (e : Extract). e .pool .words) r)
     refl
     (sym (unstirred c p k (sh .stirs)))
@@ -235,19 +233,17 @@ unfolding pick
 write-takes p k bs sh = rw (sh .fed .feeds) (none-taken inputShape (p .reseed) _ (sh .reseed))
 
 pub write-done : (k : Keeper) (bs : List ℕ) (p : Plan) (xs : List ℕ) (s : Spot)
-    → p ≡ planAt (view k) (write (length bs)) → WritePlan p → length (k .input) ≡ 128
+    → Planned k (write (length bs)) p → WritePlan p → length (k .input) ≡ inputWords
     → _≡_ {A = Pool} (record { words = xs; spot = s }) (mix (shapeOf (length (k .input))) (inputPool k) bs)
-    → left (keeperOf (withSpots s (blockingSpot (k .ledger)) (p .ledger)) (k .clocks) (k .firsts) (k .seconds) xs (k .blocking) (k .fast) (k .generator)) (answerOf p) []
+    → left (keeperOf (withSpots s (k .ledger .blocking .spot) (p .ledger)) (timersIn k) xs (k .blocking) (k .fast) (k .generator)) (answerOf p) []
     ≡ leaves k (written bs) []
 unfolding xorAt bytesWords
 write-done k bs p xs s ep sh hw em =
     let c = written bs in
     let m = mixed (k .input) xs _ s _ hw em in
     let r = write-takes p k bs sh in
-    parts (ap (λ (v : Spot). withSpots v (blockingSpot (k .ledger)) (p .ledger)) (ap (λ (q : Pool). q .spot) m ∙ sym (ap (λ (e : Extract). e .pool .spot) r)))
-    (sym (kept-off p 0 (p .timer .clock) (k .clocks) (sh .fed .keeps)))
-    (sym (kept-off p 0 (p .timer .d1) (k .firsts) (sh .fed .keeps)))
-    (sym (kept-off p 0 (p .timer .d2) (k .seconds) (sh .fed .keeps)))
+    parts (ap (λ (v : Spot). withSpots v (k .ledger .blocking .spot) (p .ledger)) (ap (λ (q : Pool). q .spot) m ∙ sym (ap (λ (e : Extract). e .pool .spot) r)))
+    (sym (kept-off p 0 (timersIn k) (sh .fed .keeps)))
     (ap (λ (q : Pool). q .words) m ∙ sym (ap (λ (e : Extract). e .pool .words) r))
     refl
     (sym (unstirred c p k (sh .fed .stirs)))
@@ -267,10 +263,10 @@ filled room bs e = ap (λ (t : List ℕ). bs ++ t) (drop-of-length-le room {i = 
 
 pub read-done : (k : Keeper) (now : ℕ) (room : List ℕ) (p : Plan) (xs : List ℕ) (u : Spot) (g h out : List ℕ)
     → let e = extract (shapeOf (length (k .input))) (p .reseed) (inputPool k) in
-    p ≡ planAt (view k) (read now (length room)) → ReadPlan (length room) p → length (k .input) ≡ 128 → length (k .generator) ≡ 16
+    Planned k (read now (length room)) p → ReadPlan (length room) p → length (k .input) ≡ inputWords → length (k .generator) ≡ 16
     → xs ≡ e .pool .words → u ≡ e .pool .spot → g ≡ ontoKey (e .bytes) (k .generator)
     → out ≡ (generated (length room) g) .bytes → h ≡ (generated (length room) g) .generator
-    → left (keeperOf (withSpots u (blockingSpot (k .ledger)) (p .ledger)) (k .clocks) (k .firsts) (k .seconds) xs (k .blocking) (k .fast) h) (answerOf p) out
+    → left (keeperOf (withSpots u (k .ledger .blocking .spot) (p .ledger)) (timersIn k) xs (k .blocking) (k .fast) h) (answerOf p) out
     ≡ leaves k (generatorRead now (length room)) room
 read-done k now room p xs u g h out ep sh hw hg ex eu eg eo eh =
     let c = generatorRead now (length room) in
@@ -280,10 +276,8 @@ read-done k now room p xs u g h out ep sh hw hg ex eu eg eo eh =
     let long : length g ≡ 16 = ap length eg ∙ key-length _ (k .generator) ∙ hg in
     let all-of-it : length ((fromGenerator c p k) .bytes) ≡ p .stream = ap (λ (s : Stream). length (s .bytes)) (sym made) ∙ generated-length (length room) g long ∙ sym (sh .whole) in
     let full : roomAfter room ((generated (length room) g) .bytes) ≡ (generated (length room) g) .bytes = filled room _ (generated-length (length room) g long) in
-    parts (ap (λ (v : Spot). withSpots v (blockingSpot (k .ledger)) (p .ledger)) (eu ∙ ap (λ (e : Extract). e .pool .spot) r))
-    (sym (kept-off p 0 (p .timer .clock) (k .clocks) (sh .keeps)))
-    (sym (kept-off p 0 (p .timer .d1) (k .firsts) (sh .keeps)))
-    (sym (kept-off p 0 (p .timer .d2) (k .seconds) (sh .keeps)))
+    parts (ap (λ (v : Spot). withSpots v (k .ledger .blocking .spot) (p .ledger)) (eu ∙ ap (λ (e : Extract). e .pool .spot) r))
+    (sym (kept-off p 0 (timersIn k) (sh .keeps)))
     (ex ∙ ap (λ (e : Extract). e .pool .words) r)
     refl
     (sym (unstirred c p k (sh .stirs)))
@@ -301,12 +295,12 @@ blocking-takes p k len e z =
 pub blocking-done : (k : Keeper) (room : List ℕ) (p : Plan) (xs ys zs : List ℕ) (u v w : Spot) (out : List ℕ)
     → let t = extract (shapeOf (length (k .input))) (p .transfer) (inputPool k) in
     let d = extract (shapeOf (length ys)) (p .deliver) (record { words = ys; spot = v }) in
-    p ≡ planAt (view k) (blockingRead (length room)) → BlockingPlan (length room) p
-    → length (k .input) ≡ 128 → length (k .blocking) ≡ 32
+    Planned k (blockingRead (length room)) p → BlockingPlan (length room) p
+    → length (k .input) ≡ inputWords → length (k .blocking) ≡ blockingWords
     → xs ≡ t .pool .words → u ≡ t .pool .spot
     → _≡_ {A = Pool} (record { words = ys; spot = v }) (mix (shapeOf (length (k .blocking))) (blockingPool k) (t .bytes))
     → zs ≡ d .pool .words → w ≡ d .pool .spot → out ≡ d .bytes ++ drop (p .deliver) room
-    → left (keeperOf (withSpots u w (p .ledger)) (k .clocks) (k .firsts) (k .seconds) xs zs (k .fast) (k .generator)) (answerOf p) out
+    → left (keeperOf (withSpots u w (p .ledger)) (timersIn k) xs zs (k .fast) (k .generator)) (answerOf p) out
     ≡ leaves k (blockingReadOf (length room)) room
 blocking-done k room p xs ys zs u v w out ep sh hi hb ex eu em ez ew eo =
     let c = blockingReadOf (length room) in
@@ -314,15 +308,13 @@ blocking-done k room p xs ys zs u v w out ep sh hi hb ex eu em ez ew eo =
     reseeded (k .input) (inputSpot (k .ledger)) (inputPool k) (p .transfer) hi refl ∙ sym (blocking-takes p k (length room) (sh .feeds) (sh .reseed)) in
     let m : _≡_ {A = Pool} (record { words = ys; spot = v }) (mix blockingShape (blockingPool k) ((forTransfer c p k) .bytes)) =
     em ∙ ap₂ (λ (s : Shape) (e : Extract). mix s (blockingPool k) (e .bytes)) (shape-32 (length (k .blocking)) hb) r in
-    let long : length ys ≡ 32 = ap (λ (q : Pool). length (q .words)) m ∙ mix-length blockingShape (blockingPool k) _ ∙ hb in
+    let long : length ys ≡ blockingWords = ap (λ (q : Pool). length (q .words)) m ∙ mix-length blockingShape (blockingPool k) _ ∙ hb in
     let d : extract (shapeOf (length ys)) (p .deliver) (record { words = ys; spot = v }) ≡ forDelivery c p k =
     ap₂ (λ (s : Shape) (q : Pool). extract s (p .deliver) q) (shape-32 (length ys) long) m in
     let front : roomAfter room ((forDelivery c p k) .bytes) ≡ (forDelivery c p k) .bytes ++ drop (p .deliver) room =
     in-front room ((forDelivery c p k) .bytes) (p .deliver) (extract-length blockingShape (p .deliver) _) in
     parts (ap₂ (λ (a b : Spot). withSpots a b (p .ledger)) (eu ∙ ap (λ (e : Extract). e .pool .spot) r) (ew ∙ ap (λ (e : Extract). e .pool .spot) d))
-    (sym (kept-off p 0 (p .timer .clock) (k .clocks) (sh .keeps)))
-    (sym (kept-off p 0 (p .timer .d1) (k .firsts) (sh .keeps)))
-    (sym (kept-off p 0 (p .timer .d2) (k .seconds) (sh .keeps)))
+    (sym (kept-off p 0 (timersIn k) (sh .keeps)))
     (ex ∙ ap (λ (e : Extract). e .pool .words) r)
     (ez ∙ ap (λ (e : Extract). e .pool .words) d)
     (sym (unstirred c p k (sh .stirs)))

@@ -2,23 +2,35 @@
 use mathlib.Core.Path.{_≡_}
 use mathlib.Core.List.{List, [], _++_}
 use lib.ListN.{drop}
-use Prim.Native.Nat.{ℕ, _+_, _≤_}
+use Prim.Native.Nat.{ℕ}
 use lib.IntN.{ℤ}
-use Rattle.ledger.specs.Plans.{blocksRun, compressionsRun}
+use denote.Ref.{RefT}
+use denote.Triple.Both.{Both}
+use Rattle.ledger.specs.Timers.{timersOf}
 use Rattle.ledger.specs.declared.Ledger.{Ledger}
-use Rattle.ledger.specs.declared.Plan.{Plan}
-use Rattle.keeper.specs.Record.{Outcome, roomAfter, made}
+use Rattle.ledger.specs.declared.Answer.{Answer}
+use Rattle.keeper.specs.Record.{keeperOf, Outcome, roomAfter, made}
 use Rattle.keeper.specs.Calls.{Call}
 use Rattle.keeper.specs.Narrative.{told}
 use Rattle.keeper.specs.declared.Keeper.{Keeper}
-use Rattle.keeper.specs.declared.Answer.{Answer}
 
--- a record out of its parts
-abbrev pub keeperOf : Ledger → List ℕ → List ℤ → List ℤ → List ℕ → List ℕ → List ℕ → List ℕ → Keeper
-keeperOf l clocks firsts seconds input blocking fast generator =
-    record { ledger = l; clocks = clocks; firsts = firsts; seconds = seconds; input = input; blocking = blocking; fast = fast; generator = generator }
+-- ---- the record whose parts are lent
+-- an array as a contract names it, at entry and at exit; one that is not lent stays
+abbrev pub Lent : Type 0 → Type 0
+Lent A = Both (RefT (List A)) (RefT (List A))
 
--- the record, the answer and the output room, all as they are when a call is over
+abbrev pub still : {A : Type 0} → List A → Lent A
+still xs = record { entry = record { ptr = (0, 0); name = 0; now = xs }; exit = record { ptr = (0, 0); name = 0; now = xs } }
+
+-- the record, at entry and at exit
+abbrev pub lent : Ledger → Ledger → Lent ℕ → Lent ℤ → Lent ℤ → Lent ℕ → Lent ℕ → Lent ℕ → Lent ℕ → Both Keeper Keeper
+lent l m clocks firsts seconds input blocking fast generator =
+    record {
+      entry = keeperOf l (timersOf (clocks .entry .now) (firsts .entry .now) (seconds .entry .now)) (input .entry .now) (blocking .entry .now) (fast .entry .now) (generator .entry .now);
+      exit = keeperOf m (timersOf (clocks .exit .now) (firsts .exit .now) (seconds .exit .now)) (input .exit .now) (blocking .exit .now) (fast .exit .now) (generator .exit .now);
+    }
+
+-- ---- the record, the answer and the output room, all as they are when a call is over
 pub record Left : Type 0 where
   pub keeper : Keeper
   pub answer : Answer
@@ -35,6 +47,10 @@ over room o = left (o .keeper) (o .answer) (roomAfter room (o .bytes))
 unfoldable pub leaves : Keeper → Call → List ℕ → Left
 leaves k c room = over room (told k c)
 
+-- a call's contract: of the record at entry and of a room, the record at exit, the answer and the room are what the call leaves
+abbrev pub Leaves : Both Keeper Keeper → Answer → Call → List ℕ → List ℕ → Type 0
+Leaves k a c room room′ = left (k .exit) a room′ ≡ leaves (k .entry) c room
+
 -- what a call leaves, part by part
 pub record Told (k : Keeper) (c : Call) (room : List ℕ) (x : Left) : Type 0 where
   pub keeper : x .keeper ≡ (told k c) .keeper
@@ -44,14 +60,3 @@ pub record Told (k : Keeper) (c : Call) (room : List ℕ) (x : Left) : Type 0 wh
 -- what the making of a keeper leaves
 unfoldable pub leavesMade : Keeper → List ℕ → Left
 leavesMade k start = over [] (made start k)
-
--- ---- the answer to a plan that was carried out
--- a plan's numbers of bytes, as far as any plan goes
-pub record Small (p : Plan) : Type 0 where
-  pub reseed : p .reseed ≤ 32
-  pub transfer : p .transfer ≤ 128
-  pub deliver : p .deliver ≤ 4096
-  pub stream : p .stream ≤ 4096
-
-abbrev pub answerOf : Plan → Answer
-answerOf p = record { number = p .number; delivered = p .deliver + p .stream; blocks = blocksRun p; compressions = compressionsRun p }

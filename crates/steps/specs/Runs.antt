@@ -1,11 +1,11 @@
 -- A record made a keeper, and calls made on it one after another, each with an output room of its own: what the code leaves of them, what two
 -- such runs must show alike, and what work each of them must report.
 use mathlib.Core.Path.{_≡_}
-use mathlib.Core.List.{List, [], _∷_}
+use mathlib.Core.List.{List, [], _∷_, map}
 use Prim.Native.Nat.{ℕ}
+use Rattle.ledger.specs.Machine.{Shown}
 use Rattle.keeper.specs.Calls.{Call, public}
-use Rattle.keeper.specs.Demands.{Alike}
-use Rattle.keeper.specs.Record.{Outcome}
+use Rattle.keeper.specs.Record.{view}
 use Rattle.keeper.specs.Work.{Worked}
 use Rattle.keeper.specs.declared.Keeper.{Keeper}
 use Rattle.steps.specs.Promise.{Left, leaves, leavesMade}
@@ -22,12 +22,11 @@ pub record MadeAndRan (k : Keeper) (start : List ℕ) (m : Left) (cs : List Call
   pub ran : Ran (m .keeper) cs xs
 
 -- alike: all but the words of pools, fast pool and generator, and the room
-abbrev pub bare : Left → Outcome
-bare x = record { keeper = x .keeper; answer = x .answer; bytes = [] }
+abbrev pub showing : Left → Shown
+showing x = record { view = view (x .keeper); answer = x .answer }
 
-pub data LeftAlike : List Left → List Left → Type 0 where
-  nothing : LeftAlike [] []
-  further : {x y : Left} {xs ys : List Left} → Alike (bare x) (bare y) → LeftAlike xs ys → LeftAlike (x ∷ xs) (y ∷ ys)
+abbrev pub LeftAlike : List Left → List Left → Type 0
+LeftAlike xs ys = map showing xs ≡ map showing ys
 
 -- the work that each answer reports was done
 pub data LeftWorked : Keeper → List Call → List Left → Type 0 where

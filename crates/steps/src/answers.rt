@@ -1,12 +1,9 @@
 // What a call gives back.
 ghost use mathlib.Core.Path.{_≡_};
-ghost use Prim.Native.Nat.{_+_, _≤_};
 ghost use Rattle.ledger.specs.Marks.{withSpots};
-ghost use Rattle.ledger.specs.Plans.{blocksRun, compressionsRun};
-ghost use Rattle.steps.specs.Promise.{Small, answerOf};
-use decide::blocks_run;
-use decide::compressions_run;
-use keeper::Answer;
+ghost use Rattle.ledger.specs.Plans.{Small, answerOf};
+use decide::answer_of;
+use ledger::Answer;
 use ledger::Ledger;
 use ledger::Plan;
 use ledger::Spot;
@@ -17,8 +14,8 @@ pub struct Done {
     pub answer: Answer,
 }
 
-// Nothing changed, nothing delivered, no work.
-pub fn refused(l: Ledger, number: u32) -> Done
+// A number and no more: nothing delivered, no work.
+pub fn answered(l: Ledger, number: u32) -> Done
     ensures { λ r. ⌜ r ≡ record { ledger = l; answer = record { number = number; delivered = 0; blocks = 0; compressions = 0 } } ⌝ }
 {
     let a = Answer {
@@ -33,21 +30,6 @@ pub fn refused(l: Ledger, number: u32) -> Done
     }
 }
 
-// The plan's number, what it hands out and what it costs.
-fn answer_of(p: Plan) -> Answer
-    requires { ⌜ Small p ⌝ }
-    ensures { λ r. ⌜ r ≡ answerOf p ⌝ }
-{
-    let blocks = blocks_run(p) as u32;
-    let compressions = compressions_run(p) as u32;
-    Answer {
-        number: p.number,
-        delivered: p.deliver + p.stream,
-        blocks: blocks,
-        compressions: compressions,
-    }
-}
-
 // A plan that was carried out, with the spots that the pools then have.
 pub fn carried_out(p: Plan, i: Spot, b: Spot) -> Done
     requires { ⌜ Small p ⌝ }
@@ -55,8 +37,8 @@ pub fn carried_out(p: Plan, i: Spot, b: Spot) -> Done
 {
     let a = answer_of(p);
     let mut l = p.ledger;
-    l.input_spot = i;
-    l.blocking_spot = b;
+    l.input.spot = i;
+    l.blocking.spot = b;
     Done {
         ledger: l,
         answer: a,

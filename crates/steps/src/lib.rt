@@ -5,14 +5,12 @@
 // The contract of each is one equation with specs/Promise.antt over the whole record, the answer and the output room, for all inputs.
 // Of the parts that a call is not lent it says: whatever stands in them, they are the same afterwards.
 //
-// `answers` has what a call gives back, `range` the test of what a ledger does not hold, `timers` a device's timer in the table;
-// `making` makes a keeper, `feeding` has the calls that bring bytes, `reading` those that take some.
+// `answers` has what a call gives back, `range` the test of what a ledger does not hold; `making` makes a keeper, `feeding` has the calls that bring bytes, `reading` those that take some.
 mod answers;
 pub mod feeding;
 pub mod making;
 mod range;
 pub mod reading;
-mod timers;
 
 pub use answers::Done;
 pub use feeding::event_on;

@@ -4,15 +4,25 @@ ghost use mathlib.Core.List.{[], _++_};
 ghost use Prim.Native.Nat.{_<_};
 ghost use lib.ListN.{length, getD};
 ghost use Rattle.words.specs.Bytes.{bytesWords};
+ghost use Rattle.ledger.specs.Sizes.{startBytes};
 ghost use Rattle.ledger.specs.Marks.{freshLedger};
 ghost use Rattle.ledger.specs.Range.{fixedWords};
-ghost use Rattle.steps.specs.Promise.{keeperOf, left, leavesMade};
+ghost use Rattle.steps.specs.Promise.{lent, left, leavesMade};
 use crate::answers::Done;
-use crate::answers::refused;
+use crate::answers::answered;
 use decide::numbers::DONE;
 use decide::numbers::START_NOT_48;
+use ledger::Gauge;
 use ledger::Ledger;
+use ledger::Seeding;
+use ledger::Spill;
 use ledger::Spot;
+use ledger::sizes::BLOCKING_WORDS;
+use ledger::sizes::DEVICES;
+use ledger::sizes::FAST_WORDS;
+use ledger::sizes::GENERATOR_WORDS;
+use ledger::sizes::INPUT_WORDS;
+use ledger::sizes::START_BYTES;
 use words::u32_of_bytes;
 
 // All zero, unseeded.
@@ -20,22 +30,21 @@ fn fresh_ledger() -> Ledger
     ensures { λ r. ⌜ r ≡ freshLedger ⌝ }
 {
     let s = Spot { at: 0, turn: 0 };
+    let g = Gauge { count: 0, spot: s };
+    let spill = Spill { tally: 0, clock: 0 };
+    let seeding = Seeding { mark: 0, clock: 0 };
     Ledger {
-        input_count: 0,
-        blocking_count: 0,
-        input_spot: s,
-        blocking_spot: s,
-        last_value: 0,
-        tally: 0,
-        last_spill: 0,
-        seeded: 0,
-        seeding_clock: 0,
+        input: g,
+        blocking: g,
+        value: 0,
+        spill: spill,
+        seeding: seeding,
     }
 }
 
 // The word of the start bytes from k on.
 fn start_word(start: &[u8], i: usize) -> u32
-    requires { ⌜ (length (now start) ≡ 48) × (i < 12) ⌝ }
+    requires { ⌜ (length (now start) ≡ startBytes) × (i < 12) ⌝ }
     ensures { λ r. ⌜ r ≡ getD (bytesWords (now (start .entry))) i 0 ⌝ }
 {
     let k = 4 * i;
@@ -43,8 +52,8 @@ fn start_word(start: &[u8], i: usize) -> u32
 }
 
 // The generator's words: four that are fixed, then the start bytes.
-fn first_words(start: &[u8]) -> [u32; 16]
-    requires { ⌜ length (now start) ≡ 48 ⌝ }
+fn first_words(start: &[u8]) -> [u32; GENERATOR_WORDS]
+    requires { ⌜ length (now start) ≡ startBytes ⌝ }
     ensures { λ r. ⌜ r ≡ fixedWords ++ bytesWords (now (start .entry)) ⌝ }
 {
     [
@@ -70,27 +79,27 @@ fn first_words(start: &[u8]) -> [u32; 16]
 // A keeper made of start bytes: 48 of them, or nothing is changed.
 pub fn make_on(
     l: Ledger,
-    clocks: &mut [u32; 16],
-    firsts: &mut [i64; 16],
-    seconds: &mut [i64; 16],
-    input: &mut [u32; 128],
-    blocking: &mut [u32; 32],
-    fast: &mut [u32; 4],
-    generator: &mut [u32; 16],
+    clocks: &mut [u32; DEVICES],
+    firsts: &mut [i64; DEVICES],
+    seconds: &mut [i64; DEVICES],
+    input: &mut [u32; INPUT_WORDS],
+    blocking: &mut [u32; BLOCKING_WORDS],
+    fast: &mut [u32; FAST_WORDS],
+    generator: &mut [u32; GENERATOR_WORDS],
     start: &[u8],
 ) -> Done
-    ensures { λ r. ⌜ left (keeperOf (r .ledger) (now (clocks .exit)) (now (firsts .exit)) (now (seconds .exit)) (now (input .exit)) (now (blocking .exit)) (now (fast .exit)) (now (generator .exit))) (r .answer) [] ≡ leavesMade (keeperOf l (now (clocks .entry)) (now (firsts .entry)) (now (seconds .entry)) (now (input .entry)) (now (blocking .entry)) (now (fast .entry)) (now (generator .entry))) (now (start .entry)) ⌝ }
+    ensures { λ r. let k = lent l (r .ledger) clocks firsts seconds input blocking fast generator in ⌜ left (k .exit) (r .answer) [] ≡ leavesMade (k .entry) (now (start .entry)) ⌝ }
 {
-    if start.len() != 48 {
-        return refused(l, START_NOT_48);
+    if start.len() != START_BYTES {
+        return answered(l, START_NOT_48);
     }
     let g = first_words(start);
-    *clocks = [0u32; 16];
-    *firsts = [0i64; 16];
-    *seconds = [0i64; 16];
-    *input = [0u32; 128];
-    *blocking = [0u32; 32];
-    *fast = [0u32; 4];
+    *clocks = [0u32; DEVICES];
+    *firsts = [0i64; DEVICES];
+    *seconds = [0i64; DEVICES];
+    *input = [0u32; INPUT_WORDS];
+    *blocking = [0u32; BLOCKING_WORDS];
+    *fast = [0u32; FAST_WORDS];
     *generator = g;
-    refused(fresh_ledger(), DONE)
+    answered(fresh_ledger(), DONE)
 }
