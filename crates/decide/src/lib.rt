@@ -2,7 +2,7 @@
 // No function here has a secret among its parameters, and none takes the timer table: what is passed is one device's numbers.
 //
 // `plans` has a function for each definition of `ledger/specs/Plans.antt`; those named `decide_` are for code above, take any values, and
-// answer 17 where something is out of range. `work` has what a plan costs, `numbers` the numbers given back.
+// answer 17 where something is out of range. `work` has what a plan costs and answers, `numbers` the numbers given back.
 pub mod numbers;
 pub mod plans;
 pub mod work;
@@ -13,5 +13,6 @@ pub use plans::decide_interrupt;
 pub use plans::decide_read;
 pub use plans::decide_seed;
 pub use plans::decide_write;
-pub use work::blocks_run;
+pub use work::answer_of;
 pub use work::compressions_run;
+pub use work::stream_blocks;

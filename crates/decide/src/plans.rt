@@ -5,11 +5,13 @@ ghost use mathlib.Core.Bool.{true, _&&_};
 ghost use Prim.Native.Nat.{_≤_, _*_, min, max};
 ghost use lib.Dec.{eqb};
 ghost use Rattle.ledger.specs.Choice.{pick};
+ghost use Rattle.ledger.specs.Sizes.{longest};
 ghost use Rattle.ledger.specs.Credits.{reseedTakes};
-ghost use Rattle.ledger.specs.Marks.{inputCount, blockingCount, lastValue, valued, tallied, spilled, withCounts, stays, reseedDue, blocks};
+ghost use Rattle.ledger.specs.Timers.{freshTimer};
+ghost use Rattle.ledger.specs.Marks.{inputCounts, blockingCounts, valued, tallied, spilled, stays, reseedDue, isLow};
 ghost use Rattle.ledger.specs.Range.{ledgerInRange, timerInRange};
 ghost use Rattle.ledger.specs.PublicCalls.{event, interrupt, write, seed, read, blockingRead};
-ghost use Rattle.ledger.specs.Plans.{freshTimer, planOf, rest, firstSeeding, reseeding, feed, keeping, planEvent, planInterrupt, planWrite, planSeed, planRead, transferred, refilled, planBlockingRead, decide};
+ghost use Rattle.ledger.specs.Plans.{planOf, idle, firstSeeding, reseeding, feed, keeping, planEvent, planInterrupt, planWrite, planSeed, planRead, transferred, planBlockingRead, decide};
 use crate::numbers::CREDIT_TOO_HIGH;
 use crate::numbers::DONE;
 use crate::numbers::NO_SUCH_DEVICE;
@@ -21,6 +23,8 @@ use crate::numbers::WOULD_BLOCK;
 use ledger::Ledger;
 use ledger::Plan;
 use ledger::Timer;
+use ledger::sizes::DEVICES;
+use ledger::sizes::LONGEST;
 use reckon::credit;
 use reckon::debit;
 use reckon::event_bits;
@@ -69,8 +73,8 @@ fn plan_of(
 }
 
 // An answer, and nothing is done.
-fn rest(number: u32, l: Ledger) -> Plan
-    ensures { λ r. ⌜ r ≡ rest number l ⌝ }
+fn idle(number: u32, l: Ledger) -> Plan
+    ensures { λ r. ⌜ r ≡ idle number l ⌝ }
 {
     plan_of(number, l, false, false, 0, 0, 0, 0)
 }
@@ -80,13 +84,14 @@ fn reseeding(now: u32, c: u32, t: u32, l: Ledger) -> Ledger
     requires { ⌜ 64 * t ≤ c ⌝ }
     ensures { λ r. ⌜ r ≡ reseeding now c t l ⌝ }
 {
+    let left = c - 64 * t;
     let mut n = l;
-    n.input_count = c - 64 * t;
+    n.input.count = left;
     if t == 0 {
         return n;
     }
-    n.seeded = 1;
-    n.seeding_clock = now;
+    n.seeding.mark = 1;
+    n.seeding.clock = now;
     n
 }
 
@@ -97,7 +102,7 @@ fn first_seeding(bits: u32, count: u32, l: Ledger) -> u32
     if bits == 0 {
         return 0;
     }
-    if l.seeded == 1 {
+    if l.seeding.mark == 1 {
         return 0;
     }
     if count < 1024 {
@@ -108,10 +113,10 @@ fn first_seeding(bits: u32, count: u32, l: Ledger) -> u32
 
 // The call's bytes are mixed into the input pool and bits are credited.
 fn feed(now: u32, stirs: bool, bits: u32, l: Ledger) -> Plan
-    requires { ⌜ (inputCount l ≤ 32768) × (bits ≤ 32768) ⌝ }
+    requires { ⌜ (l .input .count ≤ 32768) × (bits ≤ 32768) ⌝ }
     ensures { λ r. ⌜ r ≡ feed now stirs bits l ⌝ }
 {
-    let c = credit(32768, l.input_count, bits);
+    let c = credit(32768, l.input.count, bits);
     let t = first_seeding(bits, c, l);
     let n = reseeding(now, c, t, l);
     plan_of(DONE, n, stirs, true, t, 0, 0, 0)
@@ -133,7 +138,7 @@ fn valued(device: u32, value: u32, l: Ledger) -> Ledger
 {
     let mut n = l;
     if device == 0 {
-        n.last_value = value;
+        n.value = value;
         return n;
     }
     n
@@ -141,20 +146,20 @@ fn valued(device: u32, value: u32, l: Ledger) -> Ledger
 
 // An event on device 0 with the value that was kept last.
 fn repeats(device: u32, value: u32, l: Ledger) -> bool
-    ensures { λ r. ⌜ r ≡ (eqb device 0 && eqb value (lastValue l)) ⌝ }
+    ensures { λ r. ⌜ r ≡ (eqb device 0 && eqb value (l .value)) ⌝ }
 {
-    (device == 0) & (value == l.last_value)
+    (device == 0) & (value == l.value)
 }
 
 fn plan_event(device: u32, now: u32, value: u32, t: Timer, l: Ledger) -> Plan
-    requires { ⌜ (timerInRange t ≡ true) × (inputCount l ≤ 32768) ⌝ }
+    requires { ⌜ (timerInRange t ≡ true) × (l .input .count ≤ 32768) ⌝ }
     ensures { λ r. ⌜ r ≡ planEvent device now value t l ⌝ }
 {
-    if 15 < device {
-        return rest(NO_SUCH_DEVICE, l);
+    if DEVICES <= device as usize {
+        return idle(NO_SUCH_DEVICE, l);
     }
     if repeats(device, value, l) {
-        return rest(REPEATED, l);
+        return idle(REPEATED, l);
     }
     let u = next_timer(now, t);
     let bits = event_bits(now, t);
@@ -164,18 +169,19 @@ fn plan_event(device: u32, now: u32, value: u32, t: Timer, l: Ledger) -> Plan
 
 // The fast pool is stirred, and that is all.
 fn stays(now: u32, l: Ledger) -> bool
-    requires { ⌜ l .tally ≤ 63 ⌝ }
+    requires { ⌜ l .spill .tally ≤ 63 ⌝ }
     ensures { λ r. ⌜ r ≡ stays now l ⌝ }
 {
-    (l.tally + 1 < 64) & !exceeds(now, l.last_spill, 1000)
+    (l.spill.tally + 1 < 64) & !exceeds(now, l.spill.clock, 1000)
 }
 
 fn tallied(l: Ledger) -> Ledger
-    requires { ⌜ l .tally ≤ 63 ⌝ }
+    requires { ⌜ l .spill .tally ≤ 63 ⌝ }
     ensures { λ r. ⌜ r ≡ tallied l ⌝ }
 {
+    let more = l.spill.tally + 1;
     let mut n = l;
-    n.tally = l.tally + 1;
+    n.spill.tally = more;
     n
 }
 
@@ -183,13 +189,13 @@ fn spilled(now: u32, l: Ledger) -> Ledger
     ensures { λ r. ⌜ r ≡ spilled now l ⌝ }
 {
     let mut n = l;
-    n.tally = 0;
-    n.last_spill = now;
+    n.spill.tally = 0;
+    n.spill.clock = now;
     n
 }
 
 fn plan_interrupt(now: u32, l: Ledger) -> Plan
-    requires { ⌜ (l .tally ≤ 63) × (inputCount l ≤ 32768) ⌝ }
+    requires { ⌜ (l .spill .tally ≤ 63) × (l .input .count ≤ 32768) ⌝ }
     ensures { λ r. ⌜ r ≡ planInterrupt now l ⌝ }
 {
     if stays(now, l) {
@@ -201,31 +207,31 @@ fn plan_interrupt(now: u32, l: Ledger) -> Plan
 fn plan_write(len: usize, l: Ledger) -> Plan
     ensures { λ r. ⌜ r ≡ planWrite len l ⌝ }
 {
-    if 4096 < len {
-        return rest(TOO_LONG, l);
+    if LONGEST < len {
+        return idle(TOO_LONG, l);
     }
     plan_of(DONE, l, false, true, 0, 0, 0, 0)
 }
 
 fn plan_seed(now: u32, len: usize, bits: u32, l: Ledger) -> Plan
-    requires { ⌜ inputCount l ≤ 32768 ⌝ }
+    requires { ⌜ l .input .count ≤ 32768 ⌝ }
     ensures { λ r. ⌜ r ≡ planSeed now len bits l ⌝ }
 {
-    if 4096 < len {
-        return rest(TOO_LONG, l);
+    if LONGEST < len {
+        return idle(TOO_LONG, l);
     }
     if 8 * len < bits as usize {
-        return rest(CREDIT_TOO_HIGH, l);
+        return idle(CREDIT_TOO_HIGH, l);
     }
     feed(now, false, bits, l)
 }
 
 // The bytes that a reseed before a read takes, if it is due.
 fn reseed_first(now: u32, l: Ledger) -> u32
-    ensures { λ r. ⌜ (r ≡ pick (reseedDue now l) (reseedTakes (inputCount l)) 0) × (64 * r ≤ inputCount l) ⌝ }
+    ensures { λ r. ⌜ (r ≡ pick (reseedDue now l) (reseedTakes (l .input .count)) 0) × (64 * r ≤ l .input .count) ⌝ }
 {
-    if exceeds(now, l.seeding_clock, 300000) {
-        return debit(32, 16, l.input_count);
+    if exceeds(now, l.seeding.clock, 300000) {
+        return debit(32, 16, l.input.count);
     }
     0
 }
@@ -233,17 +239,17 @@ fn reseed_first(now: u32, l: Ledger) -> u32
 fn plan_read(now: u32, len: usize, l: Ledger) -> Plan
     ensures { λ r. ⌜ r ≡ planRead now len l ⌝ }
 {
-    if 4096 < len {
-        return rest(TOO_LONG, l);
+    if LONGEST < len {
+        return idle(TOO_LONG, l);
     }
     if len == 0 {
-        return rest(DONE, l);
+        return idle(DONE, l);
     }
-    if l.seeded != 1 {
-        return rest(UNSEEDED, l);
+    if l.seeding.mark != 1 {
+        return idle(UNSEEDED, l);
     }
     let t = reseed_first(now, l);
-    let n = reseeding(now, l.input_count, t, l);
+    let n = reseeding(now, l.input.count, t, l);
     plan_of(DONE, n, false, false, t, 0, 0, len as u32)
 }
 
@@ -262,118 +268,125 @@ fn wanted(n: u32) -> u32
 
 // The bytes that a blocking read of n brings over from the input pool, of which 8 is the least.
 fn transferred(n: u32, l: Ledger) -> u32
-    requires { ⌜ n ≤ 4096 ⌝ }
-    ensures { λ r. ⌜ (r ≡ transferred n l) × ((64 * r ≤ inputCount l) × (r ≤ 128)) ⌝ }
+    requires { ⌜ n ≤ longest ⌝ }
+    ensures { λ r. ⌜ (r ≡ transferred n l) × ((64 * r ≤ l .input .count) × (r ≤ 128)) ⌝ }
 {
-    if l.blocking_count < 64 * n {
-        return debit(wanted(n), 8, l.input_count);
+    if l.blocking.count < 64 * n {
+        return debit(wanted(n), 8, l.input.count);
     }
     0
 }
 
 // Less than a byte in the blocking pool, and less than the least that can come over.
-fn blocks(l: Ledger) -> bool
-    ensures { λ r. ⌜ r ≡ blocks l ⌝ }
+fn is_low(l: Ledger) -> bool
+    ensures { λ r. ⌜ r ≡ isLow l ⌝ }
 {
-    (l.blocking_count < 64) & (l.input_count < 512)
+    (l.blocking.count < 64) & (l.input.count < 512)
 }
 
 // The counts become these.
 fn with_counts(i: u32, b: u32, l: Ledger) -> Ledger
-    ensures { λ r. ⌜ r ≡ withCounts i b l ⌝ }
+    ensures { λ r. ⌜ r ≡ blockingCounts b (inputCounts i l) ⌝ }
 {
     let mut n = l;
-    n.input_count = i;
-    n.blocking_count = b;
+    n.input.count = i;
+    n.blocking.count = b;
     n
 }
 
 fn plan_blocking_read(len: usize, l: Ledger) -> Plan
-    requires { ⌜ blockingCount l ≤ 8192 ⌝ }
+    requires { ⌜ l .blocking .count ≤ 8192 ⌝ }
     ensures { λ r. ⌜ r ≡ planBlockingRead len l ⌝ }
 {
-    if 4096 < len {
-        return rest(TOO_LONG, l);
+    if LONGEST < len {
+        return idle(TOO_LONG, l);
     }
     if len == 0 {
-        return rest(DONE, l);
+        return idle(DONE, l);
     }
-    if blocks(l) {
-        return rest(WOULD_BLOCK, l);
+    if is_low(l) {
+        return idle(WOULD_BLOCK, l);
     }
     let n = len as u32;
     let t = transferred(n, l);
-    let c = credit(8192, l.blocking_count, 8 * t);
+    let c = credit(8192, l.blocking.count, 8 * t);
     let d = debit(n, 0, c);
-    let m = with_counts(l.input_count - 64 * t, c - 64 * d, l);
+    let m = with_counts(l.input.count - 64 * t, c - 64 * d, l);
     plan_of(DONE, m, false, false, 0, t, d, 0)
 }
 
 // ---- what code above calls, with any values
 
-// In range: what is decided from, and, by `others`, the rest of the record.
+// In range: what is decided from, and, by `others`, what it is not decided from.
 fn fine(others: bool, l: Ledger, t: Timer) -> bool
     ensures { λ r. ⌜ r ≡ (others && (ledgerInRange l && timerInRange t)) ⌝ }
 {
     others & (ledger_in_range(l) & timer_in_range(t))
 }
 
-// A device event. `others` is the range test of the rest of the record (`rest_in_range`).
+// The same for a call that has no device: it is decided with a timer that no event touched.
+fn fine_untimed(others: bool, l: Ledger) -> bool
+    ensures { λ r. ⌜ r ≡ (others && (ledgerInRange l && timerInRange freshTimer)) ⌝ }
+{
+    fine(others, l, fresh_timer())
+}
+
+// A device event. `others` is the range test of what the ledger does not hold (`others_in_range`).
 pub fn decide_event(others: bool, l: Ledger, t: Timer, device: u32, now: u32, value: u32) -> Plan
     ensures { λ r. ⌜ r ≡ decide others l t (event device now value) ⌝ }
 {
     if fine(others, l, t) {
         return plan_event(device, now, value, t, l);
     }
-    rest(OUT_OF_RANGE, l)
+    idle(OUT_OF_RANGE, l)
 }
 
-// An interrupt. It has no device, so it is decided with a timer that no event touched.
+// An interrupt.
 pub fn decide_interrupt(others: bool, l: Ledger, now: u32, number: u32) -> Plan
     ensures { λ r. ⌜ r ≡ decide others l freshTimer (interrupt now number) ⌝ }
 {
-    if fine(others, l, fresh_timer()) {
+    if fine_untimed(others, l) {
         return plan_interrupt(now, l);
     }
-    rest(OUT_OF_RANGE, l)
+    idle(OUT_OF_RANGE, l)
 }
 
 // A write of so many bytes.
 pub fn decide_write(others: bool, l: Ledger, len: usize) -> Plan
     ensures { λ r. ⌜ r ≡ decide others l freshTimer (write len) ⌝ }
 {
-    if fine(others, l, fresh_timer()) {
+    if fine_untimed(others, l) {
         return plan_write(len, l);
     }
-    rest(OUT_OF_RANGE, l)
+    idle(OUT_OF_RANGE, l)
 }
 
 // A seed of so many bytes with so many bits.
 pub fn decide_seed(others: bool, l: Ledger, now: u32, len: usize, credit: u32) -> Plan
     ensures { λ r. ⌜ r ≡ decide others l freshTimer (seed now len credit) ⌝ }
 {
-    if fine(others, l, fresh_timer()) {
+    if fine_untimed(others, l) {
         return plan_seed(now, len, credit, l);
     }
-    rest(OUT_OF_RANGE, l)
+    idle(OUT_OF_RANGE, l)
 }
 
 // A generator read into a room of so many bytes.
 pub fn decide_read(others: bool, l: Ledger, now: u32, len: usize) -> Plan
     ensures { λ r. ⌜ r ≡ decide others l freshTimer (read now len) ⌝ }
 {
-    if fine(others, l, fresh_timer()) {
+    if fine_untimed(others, l) {
         return plan_read(now, len, l);
     }
-    rest(OUT_OF_RANGE, l)
+    idle(OUT_OF_RANGE, l)
 }
 
 // A blocking read into a room of so many bytes.
 pub fn decide_blocking_read(others: bool, l: Ledger, len: usize) -> Plan
     ensures { λ r. ⌜ r ≡ decide others l freshTimer (blockingRead len) ⌝ }
 {
-    if fine(others, l, fresh_timer()) {
+    if fine_untimed(others, l) {
         return plan_blocking_read(len, l);
     }
-    rest(OUT_OF_RANGE, l)
+    idle(OUT_OF_RANGE, l)
 }

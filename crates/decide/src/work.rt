@@ -1,8 +1,10 @@
-// What a plan costs: the ChaCha20 blocks and the SHA-1 compressions that carrying it out runs.
+// What a plan costs, the ChaCha20 blocks and the SHA-1 compressions that carrying it out runs, and the answer that tells it.
 ghost use mathlib.Core.Path.{_≡_};
 ghost use Prim.Native.Nat.{_≤_, _*_, _+_};
 ghost use Rattle.ledger.specs.Places.{blocksOf};
-ghost use Rattle.ledger.specs.Plans.{wholeBlocks, usedUp, streamBlocks, blocksRun, compressionsRun};
+ghost use Rattle.ledger.specs.Streams.{wholeBlocks, usedUp, streamBlocks};
+ghost use Rattle.ledger.specs.Plans.{Small, compressionsRun, answerOf};
+use ledger::Answer;
 use ledger::Plan;
 
 // Extraction blocks for so many bytes: ten to a block, the last one shortened.
@@ -36,13 +38,28 @@ fn used_up(len: u32) -> u64
     (len as u64 - 64 * (whole_blocks(len) - 1) + 3) / 4 * 4
 }
 
-// The blocks: a further one where the last has no 32 bytes left for the key.
-pub fn blocks_run(p: Plan) -> u64
-    ensures { λ r. ⌜ r ≡ blocksRun p ⌝ }
+// The blocks of a generator read: a further one where the last has no 32 bytes left for the key.
+pub fn stream_blocks(len: u32) -> u64
+    ensures { λ r. ⌜ r ≡ streamBlocks len ⌝ }
 {
-    let w = whole_blocks(p.stream);
-    if 64 < used_up(p.stream) + 32 {
+    let w = whole_blocks(len);
+    if 64 < used_up(len) + 32 {
         return w + 1;
     }
     w
+}
+
+// The plan's number, what it hands out and what it costs.
+pub fn answer_of(p: Plan) -> Answer
+    requires { ⌜ Small p ⌝ }
+    ensures { λ r. ⌜ r ≡ answerOf p ⌝ }
+{
+    let blocks = stream_blocks(p.stream) as u32;
+    let compressions = compressions_run(p) as u32;
+    Answer {
+        number: p.number,
+        delivered: p.deliver + p.stream,
+        blocks: blocks,
+        compressions: compressions,
+    }
 }

@@ -1,41 +1,40 @@
-use Rattle.ledger.specs.declared.Timer.{Timer}
-use Rattle.ledger.specs.Plans.{decide, planCall, freshTimer}
-use Rattle.ledger.specs.Range.{ledgerInRange, timerInRange}
-use mathlib.Core.Bool.{_&&_}
-use Rattle.decide.proofs.Allowed.{timer-allowed, ledger-allowed}
+use mathlib.Core.Path.{sym, _∙_}
 use Rattle.ledger.specs.Choice.{pick}
-use mathlib.Core.Path.{_≡_, refl, sym, ap, _∙_}
+use Rattle.ledger.specs.Timers.{freshTimer}
+use Rattle.ledger.specs.Plans.{decide, planCall}
+use Rattle.decide.proofs.Allowed.{ledger-allowed}
 use borrow.Author.Needs.{needs}
 use Rattle.decide.proofs.plans.decide_interrupt.Statement.{statement}
 use Rattle.decide.proofs.plans.decide_interrupt.Tie as tie
 
-fresh-timer-requires : tie.Need-fresh-timer-requires
-fresh-timer-requires c κs = search needs
-
-fine-requires : tie.Need-fine-requires
-fine-requires c κs = search needs
+fine-untimed-requires : tie.Need-fine-untimed-requires
+fine-untimed-requires c κs = search needs
 
 plan-interrupt-requires : tie.Need-plan-interrupt-requires
-plan-interrupt-requires c κs = let a = c .before .before .before .args in let e = ap (λ (t : Timer). a .others && (ledgerInRange (a .l) && timerInRange t)) (sym (c .before .before .fresh-timer .ensures)) ∙ sym (c .before .fine .ensures) ∙ c .if1 .taken in ((ledger-allowed (a .others) (a .l) freshTimer e) .tally, (ledger-allowed (a .others) (a .l) freshTimer e) .input)
+plan-interrupt-requires c κs =
+    let b : tie.After-fine-untimed = search in
+    let s : tie.Start = search in
+    let f = ledger-allowed (s .args .others) (s .args .l) freshTimer (sym (b .fine-untimed .ensures) ∙ c .if1 .taken) in
+    (f .tally, f .input .count)
 
 returns : tie.Need-returns
 unfolding decide planCall pick
-returns c = let a = c .before .before .before .before .args in rw (c .plan-interrupt .ensures, ap (λ (t : Timer). a .others && (ledgerInRange (a .l) && timerInRange t)) (sym (c .before .before .before .fresh-timer .ensures)) ∙ sym (c .before .before .fine .ensures) ∙ c .before .if1 .taken)
+returns c =
+    let t : tie.Then1 = search in
+    let b : tie.After-fine-untimed = search in
+    rw (c .plan-interrupt .ensures, sym (b .fine-untimed .ensures) ∙ t .if1 .taken)
 
-rest-requires : tie.Need-rest-requires
-rest-requires c κs = search needs
+idle-requires : tie.Need-idle-requires
+idle-requires c κs = search needs
 
 returns-2 : tie.Need-returns-2
 unfolding decide pick
-returns-2 c = let a = c .before .before .before .before .args in rw (c .rest .ensures, ap (λ (t : Timer). a .others && (ledgerInRange (a .l) && timerInRange t)) (sym (c .before .before .before .fresh-timer .ensures)) ∙ sym (c .before .before .fine .ensures) ∙ c .before .if1 .left)
+returns-2 c =
+    let e : tie.Else1 = search in
+    let b : tie.After-fine-untimed = search in
+    rw (c .idle .ensures, sym (b .fine-untimed .ensures) ∙ e .if1 .left)
 
 pub decide-interrupt-spec : {M : Type 1} → statement M
 decide-interrupt-spec =
     tie.close
-    (tie.spec
-    fresh-timer-requires
-    fine-requires
-    plan-interrupt-requires
-    returns
-    rest-requires
-    returns-2)
+    (tie.spec fine-untimed-requires plan-interrupt-requires returns idle-requires returns-2)

@@ -17,7 +17,11 @@ plan-of-requires c κs = search needs
 
 returns : tie.Need-returns
 unfolding feed
-returns c = rw (c .plan-of .ensures, c .before .reseeding .ensures, c .before .before .first-seeding .ensures .0, c .before .before .before .credit .ensures .0)
+returns c =
+    let m : tie.After-reseeding = search in
+    let f : tie.After-first-seeding = search in
+    let b : tie.After-credit = search in
+    rw (c .plan-of .ensures, m .reseeding .ensures, f .first-seeding .ensures .0, b .credit .ensures .0)
 
 pub feed-spec : {M : Type 1} → statement M
 feed-spec =

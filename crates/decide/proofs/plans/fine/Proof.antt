@@ -9,7 +9,9 @@ timer-in-range-requires : tie.Need-timer-in-range-requires
 timer-in-range-requires c κs = search needs
 
 returns : tie.Need-returns
-returns c = rw (c .timer-in-range .ensures, c .before .ledger-in-range .ensures)
+returns c =
+    let b : tie.After-ledger-in-range = search in
+    rw (c .timer-in-range .ensures, b .ledger-in-range .ensures)
 
 pub fine-spec : {M : Type 1} → statement M
 fine-spec = tie.close (tie.spec ledger-in-range-requires timer-in-range-requires returns)

@@ -1,34 +1,45 @@
+use Rattle.ledger.specs.Sizes.{longest}
 use Rattle.ledger.specs.Plans.{planBlockingRead}
-use mathlib.Core.Path.{_≡_, refl, sym, ap, _∙_}
+use mathlib.Core.Path.{sym, _∙_}
 use Rattle.ledger.specs.Choice.{pick}
-use borrow.Author.Tests.{eq-eqb, ne-eqb, lt-ltb, le-ltb, le-leb, lt-leb}
+use borrow.Author.Tests.{eq-eqb, ne-eqb, lt-ltb, le-ltb}
 use borrow.Author.Needs.{needs}
 use Rattle.decide.proofs.plans.plan_blocking_read.Statement.{statement}
 use Rattle.decide.proofs.plans.plan_blocking_read.Tie as tie
 
-rest-requires : tie.Need-rest-requires
-rest-requires c κs = search needs
+idle-requires : tie.Need-idle-requires
+idle-requires c κs = search needs
 
 returns : tie.Need-returns
 unfolding planBlockingRead pick
-returns c = rw (c .rest .ensures, lt-ltb 4096 (c .before .before .args .len) (c .before .if1 .taken))
+returns c =
+    let t : tie.Then1 = search in
+    rw (c .idle .ensures, lt-ltb longest _ (t .if1 .taken))
 
-rest-requires-2 : tie.Need-rest-requires-2
-rest-requires-2 c κs = search needs
+idle-requires-2 : tie.Need-idle-requires-2
+idle-requires-2 c κs = search needs
 
 returns-2 : tie.Need-returns-2
 unfolding planBlockingRead pick
-returns-2 c = rw (c .rest2 .ensures, le-ltb 4096 (c .before .before .before .args .len) (c .before .before .if1 .left), eq-eqb (c .before .before .before .args .len) 0 (c .before .if2 .taken))
+returns-2 c =
+    let t : tie.Then2 = search in
+    let e : tie.Else1 = search in
+    rw (c .idle2 .ensures, le-ltb longest _ (e .if1 .left), eq-eqb _ 0 (t .if2 .taken))
 
-blocks-requires : tie.Need-blocks-requires
-blocks-requires c κs = search needs
+is-low-requires : tie.Need-is-low-requires
+is-low-requires c κs = search needs
 
-rest-requires-3 : tie.Need-rest-requires-3
-rest-requires-3 c κs = search needs
+idle-requires-3 : tie.Need-idle-requires-3
+idle-requires-3 c κs = search needs
 
 returns-3 : tie.Need-returns-3
 unfolding planBlockingRead pick
-returns-3 c = rw (c .rest3 .ensures, le-ltb 4096 (c .before .before .before .before .before .args .len) (c .before .before .before .before .if1 .left), ne-eqb (c .before .before .before .before .before .args .len) 0 (c .before .before .before .if2 .left), sym (c .before .before .blocks2 .ensures) ∙ c .before .if3 .taken)
+returns-3 c =
+    let t : tie.Then3 = search in
+    let b : tie.After-is-low = search in
+    let e2 : tie.Else2 = search in
+    let e : tie.Else1 = search in
+    rw (c .idle3 .ensures, le-ltb longest _ (e .if1 .left), ne-eqb _ 0 (e2 .if2 .left), sym (b .is-low .ensures) ∙ t .if3 .taken)
 
 cast-n : tie.Need-cast-n
 cast-n c = search needs
@@ -65,18 +76,36 @@ plan-of-requires c κs = search needs
 
 returns-4 : tie.Need-returns-4
 unfolding planBlockingRead pick
-returns-4 c = rw (c .plan-of .ensures, c .before .with-counts .ensures, c .before .before .before .debit .ensures .0, c .before .before .before .before .credit .ensures .0, c .before .before .before .before .before .transferred .ensures .0, le-ltb 4096 (c .before .before .before .before .before .before .before .before .before .before .args .len) (c .before .before .before .before .before .before .before .before .before .if1 .left), ne-eqb (c .before .before .before .before .before .before .before .before .before .before .args .len) 0 (c .before .before .before .before .before .before .before .before .if2 .left), sym (c .before .before .before .before .before .before .before .blocks2 .ensures) ∙ c .before .before .before .before .before .before .if3 .left)
+returns-4 c =
+    let m : tie.After-with-counts = search in
+    let d : tie.After-debit = search in
+    let r : tie.After-credit = search in
+    let t : tie.After-transferred = search in
+    let e3 : tie.Else3 = search in
+    let b : tie.After-is-low = search in
+    let e2 : tie.Else2 = search in
+    let e : tie.Else1 = search in
+    rw (
+      c .plan-of .ensures,
+      m .with-counts .ensures,
+      d .debit .ensures .0,
+      r .credit .ensures .0,
+      t .transferred .ensures .0,
+      le-ltb longest _ (e .if1 .left),
+      ne-eqb _ 0 (e2 .if2 .left),
+      sym (b .is-low .ensures) ∙ e3 .if3 .left,
+    )
 
 pub plan-blocking-read-spec : {M : Type 1} → statement M
 plan-blocking-read-spec =
     tie.close
     (tie.spec
-    rest-requires
+    idle-requires
     returns
-    rest-requires-2
+    idle-requires-2
     returns-2
-    blocks-requires
-    rest-requires-3
+    is-low-requires
+    idle-requires-3
     returns-3
     cast-n
     transferred-requires

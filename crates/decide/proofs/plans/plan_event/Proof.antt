@@ -1,28 +1,35 @@
-use borrow.Author.Tests.{eq-eqb, ne-eqb, lt-ltb, le-ltb, le-leb, lt-leb}
+use borrow.Author.Tests.{le-leb, lt-leb}
 use Rattle.ledger.specs.Choice.{pick}
 use native.Mathlib.Omega.{arith}
-use mathlib.Core.Path.{_≡_, refl, sym, ap, _∙_}
+use mathlib.Core.Path.{sym, _∙_}
+use Rattle.ledger.specs.Sizes.{devices}
 use Rattle.ledger.specs.Plans.{planEvent}
 use borrow.Author.Needs.{needs}
 use Rattle.decide.proofs.plans.plan_event.Statement.{statement}
 use Rattle.decide.proofs.plans.plan_event.Tie as tie
 
-rest-requires : tie.Need-rest-requires
-rest-requires c κs = search needs
+idle-requires : tie.Need-idle-requires
+idle-requires c κs = search needs
 
 returns : tie.Need-returns
 unfolding planEvent pick
-returns c = rw (c .rest .ensures, lt-ltb 15 (c .before .before .args .device) (c .before .if1 .taken))
+returns c =
+    let t : tie.Then1 = search in
+    rw (c .idle .ensures, le-leb devices _ (t .if1 .taken))
 
 repeats-requires : tie.Need-repeats-requires
 repeats-requires c κs = search needs
 
-rest-requires-2 : tie.Need-rest-requires-2
-rest-requires-2 c κs = search needs
+idle-requires-2 : tie.Need-idle-requires-2
+idle-requires-2 c κs = search needs
 
 returns-2 : tie.Need-returns-2
 unfolding planEvent pick
-returns-2 c = rw (c .rest2 .ensures, le-ltb 15 (c .before .before .before .before .args .device) (c .before .before .before .if1 .left), sym (c .before .before .repeats .ensures) ∙ c .before .if2 .taken)
+returns-2 c =
+    let t : tie.Then2 = search in
+    let r : tie.After-repeats = search in
+    let e : tie.Else1 = search in
+    rw (c .idle2 .ensures, lt-leb devices _ (e .if1 .left), sym (r .repeats .ensures) ∙ t .if2 .taken)
 
 next-timer-requires : tie.Need-next-timer-requires
 next-timer-requires c κs = search needs
@@ -34,23 +41,42 @@ valued-requires : tie.Need-valued-requires
 valued-requires c κs = search needs
 
 feed-requires : tie.Need-feed-requires
-feed-requires c κs = (rw (c .valued .ensures) (c .before .before .before .before .before .before .pre .1), omega (arith, c .before .event-bits .ensures .1))
+feed-requires c κs =
+    let b : tie.After-event-bits = search in
+    let s : tie.Start = search in
+    (rw (c .valued .ensures) (s .pre .1), omega (arith, b .event-bits .ensures .1))
 
 keeping-requires : tie.Need-keeping-requires
 keeping-requires c κs = search needs
 
 returns-3 : tie.Need-returns-3
 unfolding planEvent pick
-returns-3 c = rw (c .keeping .ensures, c .before .feed .ensures, c .before .before .valued .ensures, c .before .before .before .event-bits .ensures .0, c .before .before .before .before .next-timer .ensures, le-ltb 15 (c .before .before .before .before .before .before .before .before .args .device) (c .before .before .before .before .before .before .before .if1 .left), sym (c .before .before .before .before .before .before .repeats .ensures) ∙ c .before .before .before .before .before .if2 .left)
+returns-3 c =
+    let f : tie.After-feed = search in
+    let v : tie.After-valued = search in
+    let b : tie.After-event-bits = search in
+    let u : tie.After-next-timer = search in
+    let e2 : tie.Else2 = search in
+    let r : tie.After-repeats = search in
+    let e : tie.Else1 = search in
+    rw (
+      c .keeping .ensures,
+      f .feed .ensures,
+      v .valued .ensures,
+      b .event-bits .ensures .0,
+      u .next-timer .ensures,
+      lt-leb devices _ (e .if1 .left),
+      sym (r .repeats .ensures) ∙ e2 .if2 .left,
+    )
 
 pub plan-event-spec : {M : Type 1} → statement M
 plan-event-spec =
     tie.close
     (tie.spec
-    rest-requires
+    idle-requires
     returns
     repeats-requires
-    rest-requires-2
+    idle-requires-2
     returns-2
     next-timer-requires
     event-bits-requires

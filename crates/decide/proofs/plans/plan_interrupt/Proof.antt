@@ -1,7 +1,6 @@
-use borrow.Author.Tests.{eq-eqb, ne-eqb, lt-ltb, le-ltb, le-leb, lt-leb}
 use Rattle.ledger.specs.Choice.{pick}
 use native.Mathlib.Omega.{arith}
-use mathlib.Core.Path.{_≡_, refl, sym, ap, _∙_}
+use mathlib.Core.Path.{sym, _∙_}
 use Rattle.ledger.specs.Plans.{planInterrupt}
 use borrow.Author.Needs.{needs}
 use Rattle.decide.proofs.plans.plan_interrupt.Statement.{statement}
@@ -18,17 +17,27 @@ plan-of-requires c κs = search needs
 
 returns : tie.Need-returns
 unfolding planInterrupt pick
-returns c = rw (c .plan-of .ensures, c .before .tallied .ensures, sym (c .before .before .before .stays .ensures) ∙ c .before .before .if1 .taken)
+returns c =
+    let t : tie.After-tallied = search in
+    let b : tie.Then1 = search in
+    let s : tie.After-stays = search in
+    rw (c .plan-of .ensures, t .tallied .ensures, sym (s .stays .ensures) ∙ b .if1 .taken)
 
 spilled-requires : tie.Need-spilled-requires
 spilled-requires c κs = search needs
 
 feed-requires : tie.Need-feed-requires
-feed-requires c κs = (rw (c .spilled .ensures) (c .before .before .before .pre .1), omega arith)
+feed-requires c κs =
+    let s : tie.Start = search in
+    (rw (c .spilled .ensures) (s .pre .1), omega arith)
 
 returns-2 : tie.Need-returns-2
 unfolding planInterrupt pick
-returns-2 c = rw (c .feed .ensures, c .before .spilled .ensures, sym (c .before .before .before .stays .ensures) ∙ c .before .before .if1 .left)
+returns-2 c =
+    let t : tie.After-spilled = search in
+    let e : tie.Else1 = search in
+    let s : tie.After-stays = search in
+    rw (c .feed .ensures, t .spilled .ensures, sym (s .stays .ensures) ∙ e .if1 .left)
 
 pub plan-interrupt-spec : {M : Type 1} → statement M
 plan-interrupt-spec =

@@ -1,30 +1,40 @@
-use borrow.Author.Tests.{eq-eqb, ne-eqb, lt-ltb, le-ltb, le-leb, lt-leb}
+use borrow.Author.Tests.{eq-eqb, ne-eqb, lt-ltb, le-ltb}
 use Rattle.ledger.specs.Choice.{pick}
+use Rattle.ledger.specs.Sizes.{longest}
 use Rattle.ledger.specs.Plans.{planRead}
 use borrow.Author.Needs.{needs}
 use Rattle.decide.proofs.plans.plan_read.Statement.{statement}
 use Rattle.decide.proofs.plans.plan_read.Tie as tie
 
-rest-requires : tie.Need-rest-requires
-rest-requires c κs = search needs
+idle-requires : tie.Need-idle-requires
+idle-requires c κs = search needs
 
 returns : tie.Need-returns
 unfolding planRead pick
-returns c = rw (c .rest .ensures, lt-ltb 4096 (c .before .before .args .len) (c .before .if1 .taken))
+returns c =
+    let t : tie.Then1 = search in
+    rw (c .idle .ensures, lt-ltb longest _ (t .if1 .taken))
 
-rest-requires-2 : tie.Need-rest-requires-2
-rest-requires-2 c κs = search needs
+idle-requires-2 : tie.Need-idle-requires-2
+idle-requires-2 c κs = search needs
 
 returns-2 : tie.Need-returns-2
 unfolding planRead pick
-returns-2 c = rw (c .rest2 .ensures, le-ltb 4096 (c .before .before .before .args .len) (c .before .before .if1 .left), eq-eqb (c .before .before .before .args .len) 0 (c .before .if2 .taken))
+returns-2 c =
+    let t : tie.Then2 = search in
+    let e : tie.Else1 = search in
+    rw (c .idle2 .ensures, le-ltb longest _ (e .if1 .left), eq-eqb _ 0 (t .if2 .taken))
 
-rest-requires-3 : tie.Need-rest-requires-3
-rest-requires-3 c κs = search needs
+idle-requires-3 : tie.Need-idle-requires-3
+idle-requires-3 c κs = search needs
 
 returns-3 : tie.Need-returns-3
 unfolding planRead pick
-returns-3 c = rw (c .rest3 .ensures, le-ltb 4096 (c .before .before .before .before .before .args .len) (c .before .before .before .before .if1 .left), ne-eqb (c .before .before .before .before .before .args .len) 0 (c .before .before .before .if2 .left), ne-eqb (c .before .before .before .before .before .args .l .seeded) 1 (c .before .if3 .taken))
+returns-3 c =
+    let t : tie.Then3 = search in
+    let e2 : tie.Else2 = search in
+    let e : tie.Else1 = search in
+    rw (c .idle3 .ensures, le-ltb longest _ (e .if1 .left), ne-eqb _ 0 (e2 .if2 .left), ne-eqb _ 1 (t .if3 .taken))
 
 reseed-first-requires : tie.Need-reseed-first-requires
 reseed-first-requires c κs = search needs
@@ -40,17 +50,30 @@ plan-of-requires c κs = search needs
 
 returns-4 : tie.Need-returns-4
 unfolding planRead pick
-returns-4 c = rw (c .plan-of .ensures, c .before .reseeding .ensures, c .before .before .reseed-first .ensures .0, le-ltb 4096 (c .before .before .before .before .before .before .before .args .len) (c .before .before .before .before .before .before .if1 .left), ne-eqb (c .before .before .before .before .before .before .before .args .len) 0 (c .before .before .before .before .before .if2 .left), eq-eqb (c .before .before .before .before .before .before .before .args .l .seeded) 1 (c .before .before .before .if3 .left))
+returns-4 c =
+    let m : tie.After-reseeding = search in
+    let r : tie.After-reseed-first = search in
+    let e3 : tie.Else3 = search in
+    let e2 : tie.Else2 = search in
+    let e : tie.Else1 = search in
+    rw (
+      c .plan-of .ensures,
+      m .reseeding .ensures,
+      r .reseed-first .ensures .0,
+      le-ltb longest _ (e .if1 .left),
+      ne-eqb _ 0 (e2 .if2 .left),
+      eq-eqb _ 1 (e3 .if3 .left),
+    )
 
 pub plan-read-spec : {M : Type 1} → statement M
 plan-read-spec =
     tie.close
     (tie.spec
-    rest-requires
+    idle-requires
     returns
-    rest-requires-2
+    idle-requires-2
     returns-2
-    rest-requires-3
+    idle-requires-3
     returns-3
     reseed-first-requires
     reseeding-requires

@@ -1,6 +1,6 @@
 use Rattle.ledger.specs.Choice.{pick}
 use native.Mathlib.Omega.{arith}
-use mathlib.Core.Path.{_≡_, refl, sym, ap, _∙_}
+use mathlib.Core.Path.{sym, _∙_}
 use borrow.Author.Needs.{needs}
 use Rattle.decide.proofs.plans.reseed_first.Statement.{statement}
 use Rattle.decide.proofs.plans.reseed_first.Tie as tie
@@ -13,11 +13,16 @@ debit-requires c κs = search needs
 
 returns : tie.Need-returns
 unfolding pick
-returns c = (rw (sym (c .before .before .exceeds .ensures) ∙ c .before .if1 .taken) (c .debit .ensures .0), c .debit .ensures .1 .0)
+returns c =
+    let t : tie.Then1 = search in
+    let b : tie.After-exceeds = search in
+    (rw (sym (b .exceeds .ensures) ∙ t .if1 .taken) (c .debit .ensures .0), c .debit .ensures .1 .0)
 
 returns-2 : tie.Need-returns-2
 unfolding pick
-returns-2 c = (rw (sym (c .before .exceeds .ensures) ∙ c .if1 .left), omega arith)
+returns-2 c =
+    let b : tie.After-exceeds = search in
+    (rw (sym (b .exceeds .ensures) ∙ c .if1 .left), omega arith)
 
 pub reseed-first-spec : {M : Type 1} → statement M
 reseed-first-spec = tie.close (tie.spec exceeds-requires debit-requires returns returns-2)
