@@ -270,7 +270,7 @@ pub read-done : (k : Keeper) (now : ℕ) (room : List ℕ) (p : Plan) (xs : List
     ≡ leaves k (generatorRead now (length room)) room
 read-done k now room p xs u g h out ep sh hw hg ex eu eg eo eh =
     let c = generatorRead now (length room) in
-    let r = reseeded (k .input) (inputSpot (k .ledger)) (inputPool k) (p .reseed) hw refl ∙ sym (read-takes p k now (length room) (sh .feeds)) in
+    let r = reseeded (k .input) (k .ledger .input .spot) (inputPool k) (p .reseed) hw refl ∙ sym (read-takes p k now (length room) (sh .feeds)) in
     let key : g ≡ ontoKey ((forReseed c p k) .bytes) (k .generator) = eg ∙ ap (λ (e : Extract). ontoKey (e .bytes) (k .generator)) r in
     let made : generated (length room) g ≡ fromGenerator c p k = ap₂ generated (sym (sh .whole)) key in
     let long : length g ≡ 16 = ap length eg ∙ key-length _ (k .generator) ∙ hg in
@@ -305,7 +305,7 @@ pub blocking-done : (k : Keeper) (room : List ℕ) (p : Plan) (xs ys zs : List �
 blocking-done k room p xs ys zs u v w out ep sh hi hb ex eu em ez ew eo =
     let c = blockingReadOf (length room) in
     let r : extract (shapeOf (length (k .input))) (p .transfer) (inputPool k) ≡ forTransfer c p k =
-    reseeded (k .input) (inputSpot (k .ledger)) (inputPool k) (p .transfer) hi refl ∙ sym (blocking-takes p k (length room) (sh .feeds) (sh .reseed)) in
+    reseeded (k .input) (k .ledger .input .spot) (inputPool k) (p .transfer) hi refl ∙ sym (blocking-takes p k (length room) (sh .feeds) (sh .reseed)) in
     let m : _≡_ {A = Pool} (record { words = ys; spot = v }) (mix blockingShape (blockingPool k) ((forTransfer c p k) .bytes)) =
     em ∙ ap₂ (λ (s : Shape) (e : Extract). mix s (blockingPool k) (e .bytes)) (shape-32 (length (k .blocking)) hb) r in
     let long : length ys ≡ blockingWords = ap (λ (q : Pool). length (q .words)) m ∙ mix-length blockingShape (blockingPool k) _ ∙ hb in

@@ -1,9 +1,10 @@
 // What a call gives back.
 ghost use mathlib.Core.Path.{_≡_};
-ghost use Rattle.ledger.specs.Marks.{withSpots};
+ghost use Rattle.ledger.specs.Marks.{placing, withSpots};
 ghost use Rattle.ledger.specs.Plans.{Small, answerOf};
 use decide::answer_of;
 use ledger::Answer;
+use ledger::Gauge;
 use ledger::Ledger;
 use ledger::Plan;
 use ledger::Spot;
@@ -30,6 +31,16 @@ pub fn answered(l: Ledger, number: u32) -> Done
     }
 }
 
+// A pool whose next byte goes to a spot.
+fn placing(s: Spot, g: Gauge) -> Gauge
+    ensures { λ r. ⌜ r ≡ placing s g ⌝ }
+{
+    Gauge {
+        count: g.count,
+        spot: s,
+    }
+}
+
 // A plan that was carried out, with the spots that the pools then have.
 pub fn carried_out(p: Plan, i: Spot, b: Spot) -> Done
     requires { ⌜ Small p ⌝ }
@@ -37,8 +48,8 @@ pub fn carried_out(p: Plan, i: Spot, b: Spot) -> Done
 {
     let a = answer_of(p);
     let mut l = p.ledger;
-    l.input.spot = i;
-    l.blocking.spot = b;
+    l.input = placing(i, l.input);
+    l.blocking = placing(b, l.blocking);
     Done {
         ledger: l,
         answer: a,

@@ -7,12 +7,12 @@ use borrow.Author.Needs.{needs}
 use Rattle.steps.proofs.making.make_on.Statement.{statement}
 use Rattle.steps.proofs.making.make_on.Tie as tie
 
-refused-requires : tie.Need-refused-requires
-refused-requires c κs = search needs
+answered-requires : tie.Need-answered-requires
+answered-requires c κs = search needs
 
 returns : tie.Need-returns
 unfolding leavesMade
-returns c = rw (c .refused .ensures) (sym (ap (over _) (making-refuses _ _ (c .before .if1 .taken))))
+returns c = rw (c .answered .ensures) (sym (ap (over _) (making-refuses _ _ (c .before .if1 .taken))))
 
 first-words-requires : tie.Need-first-words-requires
 first-words-requires c κs = search needs
@@ -20,20 +20,20 @@ first-words-requires c κs = search needs
 fresh-ledger-requires : tie.Need-fresh-ledger-requires
 fresh-ledger-requires c κs = search needs
 
-refused-requires-2 : tie.Need-refused-requires-2
-refused-requires-2 c κs = search needs
+answered-requires-2 : tie.Need-answered-requires-2
+answered-requires-2 c κs = search needs
 
 returns-2 : tie.Need-returns-2
 unfolding leavesMade
-returns-2 c = rw (c .refused2 .ensures, c .before .fresh-ledger .ensures, c .before .before .before .before .before .before .before .before .first-words .ensures) (sym (ap (over _) (making-48 _ _ (c .before .before .before .before .before .before .before .before .before .if1 .left))))
+returns-2 c = rw (c .answered2 .ensures, c .before .fresh-ledger .ensures, c .before .before .before .before .before .before .before .before .first-words .ensures) (sym (ap (over _) (making-48 _ _ (c .before .before .before .before .before .before .before .before .before .if1 .left))))
 
 pub make-on-spec : {M : Type 1} → statement M
 make-on-spec =
     tie.close
     (tie.spec
-    refused-requires
+    answered-requires
     returns
     first-words-requires
     fresh-ledger-requires
-    refused-requires-2
+    answered-requires-2
     returns-2)
