@@ -32,9 +32,9 @@ use Rattle.keeper.proofs.Keeper.Laws as K′
 use Rattle.ledger.specs.declared.Ledger.{Ledger}
 use Rattle.ledger.proofs.Ledger as L
 use Rattle.ledger.proofs.Ledger.Laws as L′
-use Rattle.keeper.specs.declared.Answer.{Answer}
-use Rattle.keeper.proofs.Answer as R
-use Rattle.keeper.proofs.Answer.Laws as R′
+use Rattle.ledger.specs.declared.Answer.{Answer}
+use Rattle.ledger.proofs.Answer as R
+use Rattle.ledger.proofs.Answer.Laws as R′
 use Rattle.steps.specs.declared.answers.Done.{Done}
 use Rattle.steps.proofs.answers.Done as D
 use Rattle.steps.proofs.answers.Done.Laws as D′
