@@ -13,8 +13,9 @@ clock-diff-requires c κs = search needs
 
 returns : tie.Need-returns
 returns c =
+    let s : tie.Start = search in
     let d = c .clock-diff in
-    let a = c .before .args in
+    let a = s .args in
     rw (up (a .limit) (omega arith), back (d .result) (d .ok), d .ensures) (past-limit (clockDiff (a .now) (a .before)) (a .limit))
 
 pub exceeds-spec : {M : Type 1} → statement M

@@ -1,4 +1,4 @@
--- `ledger::credits::credit` meets its contract: a first turn on a rest of 8 for each bit, then the turns that are left.
+-- `reckon::credits::credit` meets its contract: a first turn on a rest of 8 for each bit, then the turns that are left.
 use mathlib.Core.Path.{_≡_, sym}
 use native.Mathlib.Omega.{arith}
 use borrow.Author.Needs.{needs}
@@ -28,9 +28,12 @@ turns-requires c κs = search needs
 
 returns-2 : tie.Need-returns-2
 returns-2 c =
-    let s = c .before .before .before .before .args in
+    let t : tie.After-turn-takes = search in
+    let n : tie.After-after-turn = search in
+    let b : tie.Start = search in
+    let s = b .args in
     let is : c .turns .result ≡ credited (s .size) (s .bits) (s .count)
-    = rw (c .turns .ensures, c .before .turn-takes .ensures, c .before .before .after-turn .ensures .0)
+    = rw (c .turns .ensures, t .turn-takes .ensures, n .after-turn .ensures .0)
     (sym (credited-turns (s .size) (s .bits) (s .count) (omega arith) (omega arith))) in
     (is, rw is (credited-room (s .size) (s .bits) (s .count) (omega arith) (omega arith)))
 

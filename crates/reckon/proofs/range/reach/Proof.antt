@@ -12,8 +12,9 @@ amount-requires c κs = search needs
 
 returns : tie.Need-returns
 returns c =
-    let s = c .before .before in
-    rw (or-below 32 _ _, c .before .raised .ensures, c .amount .ensures, toZ-ofZ (s .fits .d1), toZ-ofZ (s .fits .d2), amount-second (s .args .d2))
+    let r : tie.After-raised = search in
+    let s : tie.Start = search in
+    rw (or-below 32 _ _, r .raised .ensures, c .amount .ensures, toZ-ofZ (s .fits .d1), toZ-ofZ (s .fits .d2), amount-second (s .args .d2))
 
 pub reach-spec : {M : Type 1} → statement M
 reach-spec = tie.close (tie.spec raised-requires amount-requires returns)

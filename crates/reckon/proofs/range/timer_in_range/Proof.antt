@@ -10,7 +10,8 @@ reach-requires c κs = search needs
 
 returns : tie.Need-returns
 returns c =
-    let t = c .before .before .before .args .t in
+    let s : tie.Start = search in
+    let t = s .args .t in
     let a : toZ w64 (ofZ w64 (t .d1)) ≡ t .d1 = search needs in
     let b : toZ w64 (ofZ w64 (t .d2)) ≡ t .d2 = search needs in
     rw (c .reach .ensures, a, b)

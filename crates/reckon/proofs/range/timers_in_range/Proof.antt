@@ -45,10 +45,12 @@ loop-less c = search needs
 
 loop-again : tie.Need-loop-again Inv-loop μ-loop
 loop-again c =
-    let y = c .before in
-    let x = y .before in
-    let l = x .before .before .loop in
-    let a = x .before .before .before .args in
+    let y : tie.After-reach-arg2 Inv-loop μ-loop = search in
+    let x : tie.After-reach-arg Inv-loop μ-loop = search in
+    let b : tie.At-loop Inv-loop μ-loop = search in
+    let s : tie.Start Inv-loop μ-loop = search in
+    let l = b .loop in
+    let a = s .args in
     let p = back (getD (a .firsts .now) (l .i) (pos 0)) (x .reach-arg .given) in
     let q = back (getD (a .seconds .now) (l .i) (pos 0)) (y .reach-arg2 .given) in (
       search needs,
@@ -57,8 +59,10 @@ loop-again c =
 
 returns : tie.Need-returns Inv-loop μ-loop
 returns c =
-    let l = c .before .loop in
-    let a = c .before .before .args in
+    let b : tie.At-loop Inv-loop μ-loop = search in
+    let s : tie.Start Inv-loop μ-loop = search in
+    let l = b .loop in
+    let a = s .args in
     sym (all-met 32 firstInRange secondInRange (a .firsts .now) (a .seconds .now) (l .i) (l .met) (omega arith) (omega arith)) ∙ l .inv .1
 
 pub timers-in-range-spec : {M : Type 1} → statement M

@@ -14,7 +14,9 @@ returns : tie.Need-returns
 returns c = search needs
 
 returns-2 : tie.Need-returns-2
-returns-2 c = sym (List·getD-eq-default (c .before .args .clocks .now) 0 (c .if1 .left))
+returns-2 c =
+    let s : tie.Start = search in
+    sym (List·getD-eq-default (s .args .clocks .now) 0 (c .if1 .left))
 
 pub clock-at-spec : {M : Type 1} → statement M
 clock-at-spec = tie.close (tie.spec mul-result shared-slice-read-result returns returns-2)

@@ -15,7 +15,9 @@ returns : tie.Need-returns
 returns c = search needs
 
 returns-2 : tie.Need-returns-2
-returns-2 c = sym (List·getD-eq-default (c .before .args .differences .now) (pos 0) (c .if1 .left))
+returns-2 c =
+    let s : tie.Start = search in
+    sym (List·getD-eq-default (s .args .differences .now) (pos 0) (c .if1 .left))
 
 pub difference-at-spec : {M : Type 1} → statement M
 difference-at-spec = tie.close (tie.spec mul-result shared-slice-copy-out-result returns returns-2)

@@ -19,11 +19,12 @@ keep-difference-requires-2 c κs = search needs
 
 returns : tie.Need-returns
 returns c =
-    let a = c .before .before .before .before .before .before .args in
-    let told = c .before .before .before .before .struct-told .given in
-    let first = back (a .t .d1) (told .1 .0 .1) in
-    let second = back (a .t .d2) (told .1 .1 .0 .1) in
-    ap₂ (timersOf _) (rw first at (c .before .before .before .keep-difference .ensures)) (rw second at (c .keep-difference2 .ensures))
+    let k : tie.After-keep-difference = search in
+    let b : tie.After-struct-told = search in
+    let s : tie.Start = search in
+    let t = s .args .t in
+    let told = b .struct-told .given in
+    ap₂ (timersOf _) (rw (back (t .d1) (told .1 .0 .1)) at (k .keep-difference .ensures)) (rw (back (t .d2) (told .1 .1 .0 .1)) at (c .keep-difference2 .ensures))
 
 pub keep-timer-spec : {M : Type 1} → statement M
 keep-timer-spec =

@@ -15,9 +15,11 @@ difference-at-requires-2 c κs = search needs
 
 returns : tie.Need-returns
 returns c =
-    let f = c .before .before .difference-at in
+    let a : tie.After-difference-at = search in
+    let b : tie.After-clock-at = search in
+    let f = a .difference-at in
     let s = c .difference-at2 in
-    rw (back (f .result) (f .ok), back (s .result) (s .ok), c .before .before .before .before .clock-at .ensures, f .ensures, s .ensures) refl
+    rw (back (f .result) (f .ok), back (s .result) (s .ok), b .clock-at .ensures, f .ensures, s .ensures) refl
 
 pub timer-of-spec : {M : Type 1} → statement M
 timer-of-spec =
