@@ -29,8 +29,5 @@ cast-result-2 c =
     let b = toZ-ofZ (s .fits .x) in
     rw b (unturned (s .args .x) (rw b at (c .if1 .left)), fits-natAbs tt (s .fits .x))
 
-returns-2 : tie.Need-returns-2
-returns-2 c = search needs
-
 pub amount-spec : {M : Type 1} → statement M
-amount-spec = tie.close (tie.spec cast-result add-result returns cast-result-2 returns-2)
+amount-spec = tie.close (tie.spec cast-result add-result returns cast-result-2 (λ c. search needs))

@@ -6,15 +6,6 @@ use Rattle.reckon.proofs.Signs.{back, up, sub-fits, ahead, behind, behi
 use Rattle.reckon.proofs.clocks.clock_diff.Statement.{statement}
 use Rattle.reckon.proofs.clocks.clock_diff.Tie as tie
 
-wrapping-sub-u32-requires : tie.Need-wrapping-sub-u32-requires
-wrapping-sub-u32-requires c κs = search needs
-
-cast-result : tie.Need-cast-result
-cast-result c = search needs
-
-cast-result-2 : tie.Need-cast-result-2
-cast-result-2 c = search needs
-
 sub-result : tie.Need-sub-result
 sub-result c =
     let w : tie.After-wrapping-sub-u32 = search in
@@ -38,4 +29,4 @@ returns-2 c =
 pub clock-diff-spec : {M : Type 1} → statement M
 clock-diff-spec =
     tie.close
-    (tie.spec wrapping-sub-u32-requires cast-result cast-result-2 sub-result returns returns-2)
+    (tie.spec (λ c κs. search needs) (λ c. search needs) (λ c. search needs) sub-result returns returns-2)

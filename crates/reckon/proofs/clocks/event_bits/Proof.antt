@@ -30,33 +30,12 @@ d2-is c =
 last-is : (s : tie.Start) → toZ w64 (ofZ w64 (s .args .t .d2)) ≡ s .args .t .d2
 last-is s = back (s .args .t .d2) (omega (arith, lies (s .args .t .d2), d2-bound (s .args .t) (s .pre)))
 
-next-timer-requires : tie.Need-next-timer-requires
-next-timer-requires c κs = search needs
-
 minus-requires : tie.Need-minus-requires
 minus-requires c κs =
     let u : tie.After-next-timer = search in
     let s : tie.Start = search in
     rw (d2-is u, last-is s)
     (sub-fits (u .next-timer .result .d2) (s .args .t .d2) (omega (arith, d2-bound (u .next-timer .result) (next-fine u))) (omega (arith, d2-bound (s .args .t) (s .pre))))
-
-amount-requires : tie.Need-amount-requires
-amount-requires c κs = search needs
-
-amount-requires-2 : tie.Need-amount-requires-2
-amount-requires-2 c κs = search needs
-
-amount-requires-3 : tie.Need-amount-requires-3
-amount-requires-3 c κs = search needs
-
-least-requires : tie.Need-least-requires
-least-requires c κs = search needs
-
-least-requires-2 : tie.Need-least-requires-2
-least-requires-2 c κs = search needs
-
-estimate-requires : tie.Need-estimate-requires
-estimate-requires c κs = search needs
 
 returns : tie.Need-returns
 returns c =
@@ -86,12 +65,12 @@ pub event-bits-spec : {M : Type 1} → statement M
 event-bits-spec =
     tie.close
     (tie.spec
-    next-timer-requires
+    (λ c κs. search needs)
     minus-requires
-    amount-requires
-    amount-requires-2
-    amount-requires-3
-    least-requires
-    least-requires-2
-    estimate-requires
+    (λ c κs. search needs)
+    (λ c κs. search needs)
+    (λ c κs. search needs)
+    (λ c κs. search needs)
+    (λ c κs. search needs)
+    (λ c κs. search needs)
     returns)

@@ -5,9 +5,6 @@ use Rattle.reckon.proofs.Signs.{back, lies, sub-fits, diff-bound, d1-bo
 use Rattle.reckon.proofs.clocks.next_timer.Statement.{statement}
 use Rattle.reckon.proofs.clocks.next_timer.Tie as tie
 
-clock-diff-requires : tie.Need-clock-diff-requires
-clock-diff-requires c κs = search needs
-
 minus-requires : tie.Need-minus-requires
 minus-requires c κs =
     let b : tie.After-clock-diff = search in
@@ -28,4 +25,4 @@ returns c =
     rw (back (c .minus .result) (c .minus .ok), c .minus .ensures, back (d .result) (d .ok), back (s .args .t .d1) (omega arith), d .ensures)
 
 pub next-timer-spec : {M : Type 1} → statement M
-next-timer-spec = tie.close (tie.spec clock-diff-requires minus-requires returns)
+next-timer-spec = tie.close (tie.spec (λ c κs. search needs) minus-requires returns)

@@ -11,21 +11,6 @@ use Rattle.reckon.proofs.credits.credit.Tie as tie
 returns : tie.Need-returns
 returns c = (rw (c .if1 .taken, credited-none), omega arith)
 
-mul-rest : tie.Need-mul-rest
-mul-rest c = search needs
-
-after-turn-requires : tie.Need-after-turn-requires
-after-turn-requires c κs = search needs
-
-turn-takes-requires : tie.Need-turn-takes-requires
-turn-takes-requires c κs = search needs
-
-sub-turns : tie.Need-sub-turns
-sub-turns c = search needs
-
-turns-requires : tie.Need-turns-requires
-turns-requires c κs = search needs
-
 returns-2 : tie.Need-returns-2
 returns-2 c =
     let t : tie.After-turn-takes = search in
@@ -42,9 +27,9 @@ credit-spec =
     tie.close
     (tie.spec
     returns
-    mul-rest
-    after-turn-requires
-    turn-takes-requires
-    sub-turns
-    turns-requires
+    (λ c. search needs)
+    (λ c κs. search needs)
+    (λ c κs. search needs)
+    (λ c. search needs)
+    (λ c κs. search needs)
     returns-2)

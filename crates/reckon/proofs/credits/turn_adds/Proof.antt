@@ -13,23 +13,11 @@ use Rattle.reckon.proofs.credits.turn_adds.Tie as tie
 product : (s : tie.Start) (c : tie.After-turn-takes) → c .turn-takes .result ≤ 16384 → (s .args .size - s .args .count) * c .turn-takes .result ≤ 536870912
 product s c half = let room : s .args .size - s .args .count ≤ 32768 = omega arith in mul-le-mul room half
 
-sub-result : tie.Need-sub-result
-sub-result c = search needs
-
-turn-takes-requires : tie.Need-turn-takes-requires
-turn-takes-requires c κs = search needs
-
 mul-result : tie.Need-mul-result
 mul-result c = omega (arith, product (search) c (omega arith))
 
 mul-result-2 : tie.Need-mul-result-2
 mul-result-2 c = omega (arith, product (search) c (omega arith))
-
-mul-result-3 : tie.Need-mul-result-3
-mul-result-3 c = search needs
-
-div-result : tie.Need-div-result
-div-result c = search needs
 
 returns : tie.Need-returns
 returns c =
@@ -43,10 +31,10 @@ pub turn-adds-spec : {M : Type 1} → statement M
 turn-adds-spec =
     tie.close
     (tie.spec
-    sub-result
-    turn-takes-requires
+    (λ c. search needs)
+    (λ c κs. search needs)
     mul-result
     mul-result-2
-    mul-result-3
-    div-result
+    (λ c. search needs)
+    (λ c. search needs)
     returns)

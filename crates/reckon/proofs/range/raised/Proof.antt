@@ -6,12 +6,6 @@ use Rattle.reckon.proofs.Tested.{raised-below, raised-above}
 use Rattle.reckon.proofs.range.raised.Statement.{statement}
 use Rattle.reckon.proofs.range.raised.Tie as tie
 
-amount-requires : tie.Need-amount-requires
-amount-requires c κs = search needs
-
-wrapping-sub-u64-requires : tie.Need-wrapping-sub-u64-requires
-wrapping-sub-u64-requires c κs = search needs
-
 returns : tie.Need-returns
 returns c =
     let a : tie.After-amount = search in
@@ -20,9 +14,6 @@ returns c =
     let b = toZ-ofZ (s .fits .d) in
     raised-below (s .args .d) _ (rw b at (t .if1 .taken)) (s .fits .d .sfits) (c .wrapping-sub-u64 .ok)
     (rw (a .amount .ensures, b) at (c .wrapping-sub-u64 .ensures))
-
-amount-requires-2 : tie.Need-amount-requires-2
-amount-requires-2 c κs = search needs
 
 add-result : tie.Need-add-result
 add-result c =
@@ -40,9 +31,9 @@ pub raised-spec : {M : Type 1} → statement M
 raised-spec =
     tie.close
     (tie.spec
-    amount-requires
-    wrapping-sub-u64-requires
+    (λ c κs. search needs)
+    (λ c κs. search needs)
     returns
-    amount-requires-2
+    (λ c κs. search needs)
     add-result
     returns-2)

@@ -5,9 +5,6 @@ use mir.Val.{toZ, ofZ}
 use Rattle.reckon.proofs.range.timer_in_range.Statement.{statement}
 use Rattle.reckon.proofs.range.timer_in_range.Tie as tie
 
-reach-requires : tie.Need-reach-requires
-reach-requires c κs = search needs
-
 returns : tie.Need-returns
 returns c =
     let s : tie.Start = search in
@@ -17,4 +14,4 @@ returns c =
     rw (c .reach .ensures, a, b)
 
 pub timer-in-range-spec : {M : Type 1} → statement M
-timer-in-range-spec = tie.close (tie.spec reach-requires returns)
+timer-in-range-spec = tie.close (tie.spec (λ c κs. search needs) returns)

@@ -22,27 +22,6 @@ abbrev μ-loop : tie.MeasureT-loop
 loop-holds : tie.Need-loop-holds Inv-loop μ-loop
 loop-holds c = (search needs, refl)
 
-mul-reach : tie.Need-mul-reach Inv-loop μ-loop
-mul-reach c = search needs
-
-shared-slice-copy-out-reach : tie.Need-shared-slice-copy-out-reach Inv-loop μ-loop
-shared-slice-copy-out-reach c = search needs
-
-mul-reach-2 : tie.Need-mul-reach-2 Inv-loop μ-loop
-mul-reach-2 c = search needs
-
-shared-slice-copy-out-reach-2 : tie.Need-shared-slice-copy-out-reach-2 Inv-loop μ-loop
-shared-slice-copy-out-reach-2 c = search needs
-
-reach-requires : tie.Need-reach-requires Inv-loop μ-loop
-reach-requires c κs = search needs
-
-add-i : tie.Need-add-i Inv-loop μ-loop
-add-i c = search needs
-
-loop-less : tie.Need-loop-less Inv-loop μ-loop
-loop-less c = search needs
-
 loop-again : tie.Need-loop-again Inv-loop μ-loop
 loop-again c =
     let y : tie.After-reach-arg2 Inv-loop μ-loop = search in
@@ -72,12 +51,12 @@ timers-in-range-spec =
     Inv-loop
     μ-loop
     loop-holds
-    mul-reach
-    shared-slice-copy-out-reach
-    mul-reach-2
-    shared-slice-copy-out-reach-2
-    reach-requires
-    add-i
-    loop-less
+    (λ c. search needs)
+    (λ c. search needs)
+    (λ c. search needs)
+    (λ c. search needs)
+    (λ c κs. search needs)
+    (λ c. search needs)
+    (λ c. search needs)
     loop-again
     returns)

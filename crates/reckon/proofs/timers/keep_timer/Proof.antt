@@ -5,18 +5,6 @@ use borrow.Author.Needs.{needs}
 use Rattle.reckon.proofs.timers.keep_timer.Statement.{statement}
 use Rattle.reckon.proofs.timers.keep_timer.Tie as tie
 
-mul-clocks : tie.Need-mul-clocks
-mul-clocks c = search needs
-
-element-write-clocks : tie.Need-element-write-clocks
-element-write-clocks c = search needs
-
-keep-difference-requires : tie.Need-keep-difference-requires
-keep-difference-requires c κs = search needs
-
-keep-difference-requires-2 : tie.Need-keep-difference-requires-2
-keep-difference-requires-2 c κs = search needs
-
 returns : tie.Need-returns
 returns c =
     let k : tie.After-keep-difference = search in
@@ -30,8 +18,8 @@ pub keep-timer-spec : {M : Type 1} → statement M
 keep-timer-spec =
     tie.close
     (tie.spec
-    mul-clocks
-    element-write-clocks
-    keep-difference-requires
-    keep-difference-requires-2
+    (λ c. search needs)
+    (λ c. search needs)
+    (λ c κs. search needs)
+    (λ c κs. search needs)
     returns)
