@@ -1,23 +1,26 @@
-// P7 to P12 and the event of 60 units: calls on the ledger of a fresh keeper, whose rest is in range.
+// P7 to P12 and the event of 60 units: calls on the ledger of a fresh keeper, of which all else is in range.
 use crate::print;
+use ledger::Gauge;
 use ledger::Ledger;
 use ledger::Plan;
+use ledger::Seeding;
+use ledger::Spill;
 use ledger::Spot;
 use ledger::Timer;
 
 fn fresh() -> Ledger {
-    let i = Spot { at: 0, turn: 0 };
-    let b = Spot { at: 0, turn: 0 };
     Ledger {
-        input_count: 0,
-        blocking_count: 0,
-        input_spot: i,
-        blocking_spot: b,
-        last_value: 0,
-        tally: 0,
-        last_spill: 0,
-        seeded: 0,
-        seeding_clock: 0,
+        input: Gauge {
+            count: 0,
+            spot: Spot { at: 0, turn: 0 },
+        },
+        blocking: Gauge {
+            count: 0,
+            spot: Spot { at: 0, turn: 0 },
+        },
+        value: 0,
+        spill: Spill { tally: 0, clock: 0 },
+        seeding: Seeding { mark: 0, clock: 0 },
     }
 }
 

@@ -37,11 +37,11 @@ pub fn plan(text: &[u8], p: Plan) {
     label(text);
     word(p.number);
     both(p.deliver, p.stream);
-    word(p.ledger.input_count);
-    word(p.ledger.blocking_count);
-    number(decide::blocks_run(p));
+    word(p.ledger.input.count);
+    word(p.ledger.blocking.count);
+    number(decide::stream_blocks(p.stream));
     number(decide::compressions_run(p));
-    word(p.ledger.seeded);
+    word(p.ledger.seeding.mark);
     word(p.reseed);
     end_line();
 }

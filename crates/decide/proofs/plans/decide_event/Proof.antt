@@ -6,9 +6,6 @@ use borrow.Author.Needs.{needs}
 use Rattle.decide.proofs.plans.decide_event.Statement.{statement}
 use Rattle.decide.proofs.plans.decide_event.Tie as tie
 
-fine-requires : tie.Need-fine-requires
-fine-requires c κs = search needs
-
 plan-event-requires : tie.Need-plan-event-requires
 plan-event-requires c κs =
     let b : tie.After-fine = search in
@@ -23,9 +20,6 @@ returns c =
     let b : tie.After-fine = search in
     rw (c .plan-event .ensures, sym (b .fine .ensures) ∙ t .if1 .taken)
 
-idle-requires : tie.Need-idle-requires
-idle-requires c κs = search needs
-
 returns-2 : tie.Need-returns-2
 unfolding decide pick
 returns-2 c =
@@ -35,4 +29,4 @@ returns-2 c =
 
 pub decide-event-spec : {M : Type 1} → statement M
 decide-event-spec =
-    tie.close (tie.spec fine-requires plan-event-requires returns idle-requires returns-2)
+    tie.close (tie.spec (λ c κs. search needs) plan-event-requires returns (λ c κs. search needs) returns-2)

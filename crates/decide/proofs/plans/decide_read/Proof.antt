@@ -5,21 +5,12 @@ use borrow.Author.Needs.{needs}
 use Rattle.decide.proofs.plans.decide_read.Statement.{statement}
 use Rattle.decide.proofs.plans.decide_read.Tie as tie
 
-fine-untimed-requires : tie.Need-fine-untimed-requires
-fine-untimed-requires c κs = search needs
-
-plan-read-requires : tie.Need-plan-read-requires
-plan-read-requires c κs = search needs
-
 returns : tie.Need-returns
 unfolding decide planCall pick
 returns c =
     let t : tie.Then1 = search in
     let b : tie.After-fine-untimed = search in
     rw (c .plan-read .ensures, sym (b .fine-untimed .ensures) ∙ t .if1 .taken)
-
-idle-requires : tie.Need-idle-requires
-idle-requires c κs = search needs
 
 returns-2 : tie.Need-returns-2
 unfolding decide pick
@@ -31,4 +22,4 @@ returns-2 c =
 pub decide-read-spec : {M : Type 1} → statement M
 decide-read-spec =
     tie.close
-    (tie.spec fine-untimed-requires plan-read-requires returns idle-requires returns-2)
+    (tie.spec (λ c κs. search needs) (λ c κs. search needs) returns (λ c κs. search needs) returns-2)

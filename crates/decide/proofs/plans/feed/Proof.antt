@@ -3,18 +3,6 @@ use borrow.Author.Needs.{needs}
 use Rattle.decide.proofs.plans.feed.Statement.{statement}
 use Rattle.decide.proofs.plans.feed.Tie as tie
 
-credit-requires : tie.Need-credit-requires
-credit-requires c κs = search needs
-
-first-seeding-requires : tie.Need-first-seeding-requires
-first-seeding-requires c κs = search needs
-
-reseeding-requires : tie.Need-reseeding-requires
-reseeding-requires c κs = search needs
-
-plan-of-requires : tie.Need-plan-of-requires
-plan-of-requires c κs = search needs
-
 returns : tie.Need-returns
 unfolding feed
 returns c =
@@ -26,4 +14,4 @@ returns c =
 pub feed-spec : {M : Type 1} → statement M
 feed-spec =
     tie.close
-    (tie.spec credit-requires first-seeding-requires reseeding-requires plan-of-requires returns)
+    (tie.spec (λ c κs. search needs) (λ c κs. search needs) (λ c κs. search needs) (λ c κs. search needs) returns)

@@ -23,9 +23,6 @@ returns-3 c =
     let e : tie.Else1 = search in
     (rw (ne-eqb _ 0 (e .if1 .left), ne-eqb _ 1 (e2 .if2 .left), lt-leb 1024 _ (c .if3 .taken)), omega arith)
 
-debit-requires : tie.Need-debit-requires
-debit-requires c κs = search needs
-
 returns-4 : tie.Need-returns-4
 unfolding firstSeeding pick
 returns-4 c =
@@ -35,4 +32,4 @@ returns-4 c =
     (rw (ne-eqb _ 0 (e .if1 .left), ne-eqb _ 1 (e2 .if2 .left), le-leb 1024 _ (e3 .if3 .left)) (c .debit .ensures .0), c .debit .ensures .1 .0)
 
 pub first-seeding-spec : {M : Type 1} → statement M
-first-seeding-spec = tie.close (tie.spec returns returns-2 returns-3 debit-requires returns-4)
+first-seeding-spec = tie.close (tie.spec returns returns-2 returns-3 (λ c κs. search needs) returns-4)

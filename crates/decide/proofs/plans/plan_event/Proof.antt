@@ -8,20 +8,11 @@ use borrow.Author.Needs.{needs}
 use Rattle.decide.proofs.plans.plan_event.Statement.{statement}
 use Rattle.decide.proofs.plans.plan_event.Tie as tie
 
-idle-requires : tie.Need-idle-requires
-idle-requires c κs = search needs
-
 returns : tie.Need-returns
 unfolding planEvent pick
 returns c =
     let t : tie.Then1 = search in
     rw (c .idle .ensures, le-leb devices _ (t .if1 .taken))
-
-repeats-requires : tie.Need-repeats-requires
-repeats-requires c κs = search needs
-
-idle-requires-2 : tie.Need-idle-requires-2
-idle-requires-2 c κs = search needs
 
 returns-2 : tie.Need-returns-2
 unfolding planEvent pick
@@ -31,23 +22,11 @@ returns-2 c =
     let e : tie.Else1 = search in
     rw (c .idle2 .ensures, lt-leb devices _ (e .if1 .left), sym (r .repeats .ensures) ∙ t .if2 .taken)
 
-next-timer-requires : tie.Need-next-timer-requires
-next-timer-requires c κs = search needs
-
-event-bits-requires : tie.Need-event-bits-requires
-event-bits-requires c κs = search needs
-
-valued-requires : tie.Need-valued-requires
-valued-requires c κs = search needs
-
 feed-requires : tie.Need-feed-requires
 feed-requires c κs =
     let b : tie.After-event-bits = search in
     let s : tie.Start = search in
     (rw (c .valued .ensures) (s .pre .1), omega (arith, b .event-bits .ensures .1))
-
-keeping-requires : tie.Need-keeping-requires
-keeping-requires c κs = search needs
 
 returns-3 : tie.Need-returns-3
 unfolding planEvent pick
@@ -73,14 +52,14 @@ pub plan-event-spec : {M : Type 1} → statement M
 plan-event-spec =
     tie.close
     (tie.spec
-    idle-requires
+    (λ c κs. search needs)
     returns
-    repeats-requires
-    idle-requires-2
+    (λ c κs. search needs)
+    (λ c κs. search needs)
     returns-2
-    next-timer-requires
-    event-bits-requires
-    valued-requires
+    (λ c κs. search needs)
+    (λ c κs. search needs)
+    (λ c κs. search needs)
     feed-requires
-    keeping-requires
+    (λ c κs. search needs)
     returns-3)

@@ -6,15 +6,6 @@ use borrow.Author.Needs.{needs}
 use Rattle.decide.proofs.plans.plan_interrupt.Statement.{statement}
 use Rattle.decide.proofs.plans.plan_interrupt.Tie as tie
 
-stays-requires : tie.Need-stays-requires
-stays-requires c κs = search needs
-
-tallied-requires : tie.Need-tallied-requires
-tallied-requires c κs = search needs
-
-plan-of-requires : tie.Need-plan-of-requires
-plan-of-requires c κs = search needs
-
 returns : tie.Need-returns
 unfolding planInterrupt pick
 returns c =
@@ -22,9 +13,6 @@ returns c =
     let b : tie.Then1 = search in
     let s : tie.After-stays = search in
     rw (c .plan-of .ensures, t .tallied .ensures, sym (s .stays .ensures) ∙ b .if1 .taken)
-
-spilled-requires : tie.Need-spilled-requires
-spilled-requires c κs = search needs
 
 feed-requires : tie.Need-feed-requires
 feed-requires c κs =
@@ -43,10 +31,10 @@ pub plan-interrupt-spec : {M : Type 1} → statement M
 plan-interrupt-spec =
     tie.close
     (tie.spec
-    stays-requires
-    tallied-requires
-    plan-of-requires
+    (λ c κs. search needs)
+    (λ c κs. search needs)
+    (λ c κs. search needs)
     returns
-    spilled-requires
+    (λ c κs. search needs)
     feed-requires
     returns-2)

@@ -6,20 +6,11 @@ use borrow.Author.Needs.{needs}
 use Rattle.decide.proofs.plans.plan_seed.Statement.{statement}
 use Rattle.decide.proofs.plans.plan_seed.Tie as tie
 
-idle-requires : tie.Need-idle-requires
-idle-requires c κs = search needs
-
 returns : tie.Need-returns
 unfolding planSeed pick
 returns c =
     let t : tie.Then1 = search in
     rw (c .idle .ensures, lt-ltb longest _ (t .if1 .taken))
-
-mul-if2 : tie.Need-mul-if2
-mul-if2 c = search needs
-
-idle-requires-2 : tie.Need-idle-requires-2
-idle-requires-2 c κs = search needs
 
 returns-2 : tie.Need-returns-2
 unfolding planSeed pick
@@ -27,9 +18,6 @@ returns-2 c =
     let t : tie.Then2 = search in
     let e : tie.Else1 = search in
     rw (c .idle2 .ensures, le-ltb longest _ (e .if1 .left), lt-ltb _ _ (t .if2 .taken))
-
-feed-requires : tie.Need-feed-requires
-feed-requires c κs = search needs
 
 returns-3 : tie.Need-returns-3
 unfolding planSeed pick
@@ -41,4 +29,4 @@ returns-3 c =
 pub plan-seed-spec : {M : Type 1} → statement M
 plan-seed-spec =
     tie.close
-    (tie.spec idle-requires returns mul-if2 idle-requires-2 returns-2 feed-requires returns-3)
+    (tie.spec (λ c κs. search needs) returns (λ c. search needs) (λ c κs. search needs) returns-2 (λ c κs. search needs) returns-3)

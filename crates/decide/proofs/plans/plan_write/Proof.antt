@@ -6,17 +6,11 @@ use borrow.Author.Needs.{needs}
 use Rattle.decide.proofs.plans.plan_write.Statement.{statement}
 use Rattle.decide.proofs.plans.plan_write.Tie as tie
 
-idle-requires : tie.Need-idle-requires
-idle-requires c κs = search needs
-
 returns : tie.Need-returns
 unfolding planWrite pick
 returns c =
     let t : tie.Then1 = search in
     rw (c .idle .ensures, lt-ltb longest _ (t .if1 .taken))
-
-plan-of-requires : tie.Need-plan-of-requires
-plan-of-requires c κs = search needs
 
 returns-2 : tie.Need-returns-2
 unfolding planWrite pick
@@ -25,4 +19,4 @@ returns-2 c =
     rw (c .plan-of .ensures, le-ltb longest _ (e .if1 .left))
 
 pub plan-write-spec : {M : Type 1} → statement M
-plan-write-spec = tie.close (tie.spec idle-requires returns plan-of-requires returns-2)
+plan-write-spec = tie.close (tie.spec (λ c κs. search needs) returns (λ c κs. search needs) returns-2)

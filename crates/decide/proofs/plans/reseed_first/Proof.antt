@@ -5,12 +5,6 @@ use borrow.Author.Needs.{needs}
 use Rattle.decide.proofs.plans.reseed_first.Statement.{statement}
 use Rattle.decide.proofs.plans.reseed_first.Tie as tie
 
-exceeds-requires : tie.Need-exceeds-requires
-exceeds-requires c κs = search needs
-
-debit-requires : tie.Need-debit-requires
-debit-requires c κs = search needs
-
 returns : tie.Need-returns
 unfolding pick
 returns c =
@@ -25,4 +19,4 @@ returns-2 c =
     (rw (sym (b .exceeds .ensures) ∙ c .if1 .left), omega arith)
 
 pub reseed-first-spec : {M : Type 1} → statement M
-reseed-first-spec = tie.close (tie.spec exceeds-requires debit-requires returns returns-2)
+reseed-first-spec = tie.close (tie.spec (λ c κs. search needs) (λ c κs. search needs) returns returns-2)

@@ -4,12 +4,6 @@ use borrow.Author.Needs.{needs}
 use Rattle.decide.proofs.plans.reseeding.Statement.{statement}
 use Rattle.decide.proofs.plans.reseeding.Tie as tie
 
-mul-left : tie.Need-mul-left
-mul-left c = search needs
-
-sub-left : tie.Need-sub-left
-sub-left c = search needs
-
 returns : tie.Need-returns
 unfolding pick
 returns c = rw (eq-eqb _ 0 (c .if1 .taken))
@@ -21,4 +15,4 @@ returns-2 c =
     rw (ne-eqb _ 0 (e .if1 .left))
 
 pub reseeding-spec : {M : Type 1} → statement M
-reseeding-spec = tie.close (tie.spec mul-left sub-left returns returns-2)
+reseeding-spec = tie.close (tie.spec (λ c. search needs) (λ c. search needs) returns returns-2)

@@ -5,15 +5,6 @@ use borrow.Author.Needs.{needs}
 use Rattle.decide.proofs.plans.transferred.Statement.{statement}
 use Rattle.decide.proofs.plans.transferred.Tie as tie
 
-mul-if1 : tie.Need-mul-if1
-mul-if1 c = search needs
-
-wanted-requires : tie.Need-wanted-requires
-wanted-requires c κs = search needs
-
-debit-requires : tie.Need-debit-requires
-debit-requires c κs = search needs
-
 returns : tie.Need-returns
 unfolding pick
 returns c =
@@ -26,4 +17,4 @@ unfolding pick
 returns-2 c = (rw (le-ltb _ _ (c .if1 .left)), (omega arith, omega arith))
 
 pub transferred-spec : {M : Type 1} → statement M
-transferred-spec = tie.close (tie.spec mul-if1 wanted-requires debit-requires returns returns-2)
+transferred-spec = tie.close (tie.spec (λ c. search needs) (λ c κs. search needs) (λ c κs. search needs) returns returns-2)

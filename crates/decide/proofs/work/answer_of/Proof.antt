@@ -6,23 +6,11 @@ use borrow.Author.Needs.{needs}
 use Rattle.decide.proofs.work.answer_of.Statement.{statement}
 use Rattle.decide.proofs.work.answer_of.Tie as tie
 
-stream-blocks-requires : tie.Need-stream-blocks-requires
-stream-blocks-requires c κs = search needs
-
 cast-blocks : tie.Need-cast-blocks
 cast-blocks c =
     let s : tie.Start = search in
     let most : streamBlocks (s .args .p .stream) ≤ 65 = pick-both (λ n. n ≤ 65) _ (omega arith) (omega arith) in
     omega (arith, most, c .stream-blocks .ensures)
-
-compressions-run-requires : tie.Need-compressions-run-requires
-compressions-run-requires c κs = search needs
-
-cast-compressions : tie.Need-cast-compressions
-cast-compressions c = search needs
-
-add-t5 : tie.Need-add-t5
-add-t5 c = search needs
 
 returns : tie.Need-returns
 returns c =
@@ -41,9 +29,9 @@ pub answer-of-spec : {M : Type 1} → statement M
 answer-of-spec =
     tie.close
     (tie.spec
-    stream-blocks-requires
+    (λ c κs. search needs)
     cast-blocks
-    compressions-run-requires
-    cast-compressions
-    add-t5
+    (λ c κs. search needs)
+    (λ c. search needs)
+    (λ c. search needs)
     returns)

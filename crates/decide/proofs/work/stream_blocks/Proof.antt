@@ -4,18 +4,6 @@ use borrow.Author.Needs.{needs}
 use Rattle.decide.proofs.work.stream_blocks.Statement.{statement}
 use Rattle.decide.proofs.work.stream_blocks.Tie as tie
 
-whole-blocks-requires : tie.Need-whole-blocks-requires
-whole-blocks-requires c κs = search needs
-
-used-up-requires : tie.Need-used-up-requires
-used-up-requires c κs = search needs
-
-add-if1 : tie.Need-add-if1
-add-if1 c = search needs
-
-add-result : tie.Need-add-result
-add-result c = search needs
-
 returns : tie.Need-returns
 unfolding pick
 returns c =
@@ -33,4 +21,4 @@ returns-2 c =
 pub stream-blocks-spec : {M : Type 1} → statement M
 stream-blocks-spec =
     tie.close
-    (tie.spec whole-blocks-requires used-up-requires add-if1 add-result returns returns-2)
+    (tie.spec (λ c κs. search needs) (λ c κs. search needs) (λ c. search needs) (λ c. search needs) returns returns-2)

@@ -7,26 +7,27 @@ use Rattle.reckon.proofs.clocks.amount.Tie as tie
 
 cast-result : tie.Need-cast-result
 cast-result c =
-    let t = turned (c .before .args .x) (c .before .fits .x) (c .if1 .taken) in
+    let s : tie.Start = search in
+    let t = turned (s .args .x) (s .fits .x) (c .if1 .taken) in
     rw (t .1 .1 .0) (tt, record { fits = omega (arith, t .1 .0) })
 
 add-result : tie.Need-add-result
 add-result c =
-    let t = turned (c .before .args .x) (c .before .fits .x) (c .if1 .taken) in
+    let s : tie.Start = search in
+    let t = turned (s .args .x) (s .fits .x) (c .if1 .taken) in
     rw (t .1 .1 .0) (record { fits = omega (arith, t .1 .0) })
 
 returns : tie.Need-returns
 returns c =
-    let t = turned (c .before .args .x) (c .before .fits .x) (c .if1 .taken) in
+    let s : tie.Start = search in
+    let t = turned (s .args .x) (s .fits .x) (c .if1 .taken) in
     rw (t .1 .1 .0) (t .1 .1 .1)
 
 cast-result-2 : tie.Need-cast-result-2
 cast-result-2 c =
-    let b = toZ-ofZ (c .before .fits .x) in
-    rw b (unturned (c .before .args .x) (rw b at (c .if1 .left)), fits-natAbs tt (c .before .fits .x))
-
-returns-2 : tie.Need-returns-2
-returns-2 c = search needs
+    let s : tie.Start = search in
+    let b = toZ-ofZ (s .fits .x) in
+    rw b (unturned (s .args .x) (rw b at (c .if1 .left)), fits-natAbs tt (s .fits .x))
 
 pub amount-spec : {M : Type 1} → statement M
-amount-spec = tie.close (tie.spec cast-result add-result returns cast-result-2 returns-2)
+amount-spec = tie.close (tie.spec cast-result add-result returns cast-result-2 (λ c. search needs))

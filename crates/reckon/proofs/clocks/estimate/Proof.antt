@@ -10,16 +10,20 @@ unfolding estimate pick
 returns c = (rw (c .if1 .taken), omega arith)
 
 sub-e : tie.Need-sub-e
-sub-e c = omega (arith, log2-lead (c .before .args .m) (omega (arith, c .if1 .left)) (omega arith))
+sub-e c =
+    let s : tie.Start = search in
+    omega (arith, log2-lead (s .args .m) (omega (arith, c .if1 .left)) (omega arith))
 
 returns-2 : tie.Need-returns-2
 returns-2 c =
-    let m = c .before .before .args .m in
+    let s : tie.Start = search in
+    let m = s .args .m in
     (omega (arith, log2-lead m (omega arith) (omega arith), estimate-is m (omega arith)), omega arith)
 
 returns-3 : tie.Need-returns-3
 returns-3 c =
-    let m = c .before .before .args .m in
+    let s : tie.Start = search in
+    let m = s .args .m in
     (omega (arith, log2-lead m (omega arith) (omega arith), estimate-is m (omega arith)), omega arith)
 
 pub estimate-spec : {M : Type 1} → statement M

@@ -5,17 +5,12 @@ use Rattle.reckon.proofs.Signs.{back, up, past-limit}
 use Rattle.reckon.proofs.clocks.exceeds.Statement.{statement}
 use Rattle.reckon.proofs.clocks.exceeds.Tie as tie
 
-cast-most : tie.Need-cast-most
-cast-most c = search needs
-
-clock-diff-requires : tie.Need-clock-diff-requires
-clock-diff-requires c κs = search needs
-
 returns : tie.Need-returns
 returns c =
+    let s : tie.Start = search in
     let d = c .clock-diff in
-    let a = c .before .args in
+    let a = s .args in
     rw (up (a .limit) (omega arith), back (d .result) (d .ok), d .ensures) (past-limit (clockDiff (a .now) (a .before)) (a .limit))
 
 pub exceeds-spec : {M : Type 1} → statement M
-exceeds-spec = tie.close (tie.spec cast-most clock-diff-requires returns)
+exceeds-spec = tie.close (tie.spec (λ c. search needs) (λ c κs. search needs) returns)

@@ -1,4 +1,4 @@
--- `ledger::credits::turns` meets its contract, by the cycle of calls that it is: the measure is the rest, and each turn is one of `further`, unrolled.
+-- `reckon::credits::turns` meets its contract, by the cycle of calls that it is: the measure is the rest, and each turn is one of `further`, unrolled.
 use mathlib.Core.Path.{_≡_}
 use mathlib.Core.Bool.{true, false}
 use mathlib.Core.Logic.{⊎-elim}
@@ -66,8 +66,10 @@ module _ (t : ℕ) where
 
   returns : lts.Need-returns claims at turns.Post
   returns c =
-      rw (c .turns .ensures, c .before .turn-takes .ensures, c .before .before .after-turn .ensures .0)
-      (goes-on _ _ _ (omega arith) (omega arith) (c .before .before .before .if2 .taken))
+      let t : lts.After-turn-takes claims at turns.Post = search in
+      let n : lts.After-after-turn claims at turns.Post = search in
+      let b : lts.Then2 claims at turns.Post = search in
+      rw (c .turns .ensures, t .turn-takes .ensures, n .after-turn .ensures .0) (goes-on _ _ _ (omega arith) (omega arith) (b .if2 .taken))
 
   returns-2 : lts.Need-returns-2 claims at turns.Post
   returns-2 c = ⊎-elim (λ w. full _ _ _ (omega arith) (w .0 .taken) (w .1 .left)) (λ w. no-more _ _ _ (w .left)) (c .if1 .came)

@@ -1,4 +1,4 @@
--- `ledger::credits::credit` meets its contract: a first turn on a rest of 8 for each bit, then the turns that are left.
+-- `reckon::credits::credit` meets its contract: a first turn on a rest of 8 for each bit, then the turns that are left.
 use mathlib.Core.Path.{_≡_, sym}
 use native.Mathlib.Omega.{arith}
 use borrow.Author.Needs.{needs}
@@ -11,26 +11,14 @@ use Rattle.reckon.proofs.credits.credit.Tie as tie
 returns : tie.Need-returns
 returns c = (rw (c .if1 .taken, credited-none), omega arith)
 
-mul-rest : tie.Need-mul-rest
-mul-rest c = search needs
-
-after-turn-requires : tie.Need-after-turn-requires
-after-turn-requires c κs = search needs
-
-turn-takes-requires : tie.Need-turn-takes-requires
-turn-takes-requires c κs = search needs
-
-sub-turns : tie.Need-sub-turns
-sub-turns c = search needs
-
-turns-requires : tie.Need-turns-requires
-turns-requires c κs = search needs
-
 returns-2 : tie.Need-returns-2
 returns-2 c =
-    let s = c .before .before .before .before .args in
+    let t : tie.After-turn-takes = search in
+    let n : tie.After-after-turn = search in
+    let b : tie.Start = search in
+    let s = b .args in
     let is : c .turns .result ≡ credited (s .size) (s .bits) (s .count)
-    = rw (c .turns .ensures, c .before .turn-takes .ensures, c .before .before .after-turn .ensures .0)
+    = rw (c .turns .ensures, t .turn-takes .ensures, n .after-turn .ensures .0)
     (sym (credited-turns (s .size) (s .bits) (s .count) (omega arith) (omega arith))) in
     (is, rw is (credited-room (s .size) (s .bits) (s .count) (omega arith) (omega arith)))
 
@@ -39,9 +27,9 @@ credit-spec =
     tie.close
     (tie.spec
     returns
-    mul-rest
-    after-turn-requires
-    turn-takes-requires
-    sub-turns
-    turns-requires
+    (λ c. search needs)
+    (λ c κs. search needs)
+    (λ c κs. search needs)
+    (λ c. search needs)
+    (λ c κs. search needs)
     returns-2)

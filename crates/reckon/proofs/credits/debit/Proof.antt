@@ -1,4 +1,4 @@
--- `ledger::credits::debit` meets its contract.
+-- `reckon::credits::debit` meets its contract.
 use mathlib.Core.Path.{_≡_}
 use Prim.Native.Nat.{ℕ, _/_, _<_, _≤_, min}
 use native.Mathlib.Omega.{arith}
@@ -19,14 +19,11 @@ all : (k m count : ℕ) {t : ℕ} → t ≡ min k (count / 64) → m ≤ t → t
 unfolding taken pick
 all k m count e h = rw (← e, le-ltb _ _ h)
 
-lesser-requires : tie.Need-lesser-requires
-lesser-requires c κs = search needs
-
 returns : tie.Need-returns
-returns c = (none _ _ _ (c .before .lesser .ensures) (c .if1 .taken), (omega arith, omega arith))
+returns c = (none _ _ _ (search) (c .if1 .taken), (omega arith, omega arith))
 
 returns-2 : tie.Need-returns-2
-returns-2 c = (all _ _ _ (c .before .lesser .ensures) (c .if1 .left), (omega arith, omega arith))
+returns-2 c = (all _ _ _ (search) (c .if1 .left), (omega arith, omega arith))
 
 pub debit-spec : {M : Type 1} → statement M
-debit-spec = tie.close (tie.spec lesser-requires returns returns-2)
+debit-spec = tie.close (tie.spec (λ c κs. search needs) returns returns-2)

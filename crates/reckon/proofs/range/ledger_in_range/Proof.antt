@@ -3,12 +3,6 @@ use Rattle.ledger.specs.Range.{ledgerInRange}
 use Rattle.reckon.proofs.range.ledger_in_range.Statement.{statement}
 use Rattle.reckon.proofs.range.ledger_in_range.Tie as tie
 
-pool-in-range-requires : tie.Need-pool-in-range-requires
-pool-in-range-requires c κs = search needs
-
-pool-in-range-requires-2 : tie.Need-pool-in-range-requires-2
-pool-in-range-requires-2 c κs = search needs
-
 returns : tie.Need-returns
 unfolding ledgerInRange
 returns c =
@@ -17,4 +11,4 @@ returns c =
     rw (i .pool-in-range .ensures, b .pool-in-range2 .ensures)
 
 pub ledger-in-range-spec : {M : Type 1} → statement M
-ledger-in-range-spec = tie.close (tie.spec pool-in-range-requires pool-in-range-requires-2 returns)
+ledger-in-range-spec = tie.close (tie.spec (λ c κs. search needs) (λ c κs. search needs) returns)

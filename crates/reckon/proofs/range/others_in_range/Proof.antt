@@ -3,12 +3,6 @@ use Rattle.ledger.specs.Range.{othersInRange}
 use Rattle.reckon.proofs.range.others_in_range.Statement.{statement}
 use Rattle.reckon.proofs.range.others_in_range.Tie as tie
 
-timers-in-range-requires : tie.Need-timers-in-range-requires
-timers-in-range-requires c κs = search needs
-
-same-words-requires : tie.Need-same-words-requires
-same-words-requires c κs = search needs
-
 returns : tie.Need-returns
 unfolding othersInRange
 returns c clocks =
@@ -16,4 +10,4 @@ returns c clocks =
     rw (t .timers-in-range .ensures, c .same-words .ensures)
 
 pub others-in-range-spec : {M : Type 1} → statement M
-others-in-range-spec = tie.close (tie.spec timers-in-range-requires same-words-requires returns)
+others-in-range-spec = tie.close (tie.spec (λ c κs. search needs) (λ c κs. search needs) returns)

@@ -4,16 +4,11 @@ use Rattle.reckon.proofs.Tested.{or-below, amount-second}
 use Rattle.reckon.proofs.range.reach.Statement.{statement}
 use Rattle.reckon.proofs.range.reach.Tie as tie
 
-raised-requires : tie.Need-raised-requires
-raised-requires c κs = search needs
-
-amount-requires : tie.Need-amount-requires
-amount-requires c κs = search needs
-
 returns : tie.Need-returns
 returns c =
-    let s = c .before .before in
-    rw (or-below 32 _ _, c .before .raised .ensures, c .amount .ensures, toZ-ofZ (s .fits .d1), toZ-ofZ (s .fits .d2), amount-second (s .args .d2))
+    let r : tie.After-raised = search in
+    let s : tie.Start = search in
+    rw (or-below 32 _ _, r .raised .ensures, c .amount .ensures, toZ-ofZ (s .fits .d1), toZ-ofZ (s .fits .d2), amount-second (s .args .d2))
 
 pub reach-spec : {M : Type 1} → statement M
-reach-spec = tie.close (tie.spec raised-requires amount-requires returns)
+reach-spec = tie.close (tie.spec (λ c κs. search needs) (λ c κs. search needs) returns)

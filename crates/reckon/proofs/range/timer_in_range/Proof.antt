@@ -5,15 +5,13 @@ use mir.Val.{toZ, ofZ}
 use Rattle.reckon.proofs.range.timer_in_range.Statement.{statement}
 use Rattle.reckon.proofs.range.timer_in_range.Tie as tie
 
-reach-requires : tie.Need-reach-requires
-reach-requires c κs = search needs
-
 returns : tie.Need-returns
 returns c =
-    let t = c .before .before .before .args .t in
+    let s : tie.Start = search in
+    let t = s .args .t in
     let a : toZ w64 (ofZ w64 (t .d1)) ≡ t .d1 = search needs in
     let b : toZ w64 (ofZ w64 (t .d2)) ≡ t .d2 = search needs in
     rw (c .reach .ensures, a, b)
 
 pub timer-in-range-spec : {M : Type 1} → statement M
-timer-in-range-spec = tie.close (tie.spec reach-requires returns)
+timer-in-range-spec = tie.close (tie.spec (λ c κs. search needs) returns)

@@ -22,33 +22,14 @@ abbrev μ-loop : tie.MeasureT-loop
 loop-holds : tie.Need-loop-holds Inv-loop μ-loop
 loop-holds c = (search needs, refl)
 
-mul-reach : tie.Need-mul-reach Inv-loop μ-loop
-mul-reach c = search needs
-
-shared-slice-copy-out-reach : tie.Need-shared-slice-copy-out-reach Inv-loop μ-loop
-shared-slice-copy-out-reach c = search needs
-
-mul-reach-2 : tie.Need-mul-reach-2 Inv-loop μ-loop
-mul-reach-2 c = search needs
-
-shared-slice-copy-out-reach-2 : tie.Need-shared-slice-copy-out-reach-2 Inv-loop μ-loop
-shared-slice-copy-out-reach-2 c = search needs
-
-reach-requires : tie.Need-reach-requires Inv-loop μ-loop
-reach-requires c κs = search needs
-
-add-i : tie.Need-add-i Inv-loop μ-loop
-add-i c = search needs
-
-loop-less : tie.Need-loop-less Inv-loop μ-loop
-loop-less c = search needs
-
 loop-again : tie.Need-loop-again Inv-loop μ-loop
 loop-again c =
-    let y = c .before in
-    let x = y .before in
-    let l = x .before .before .loop in
-    let a = x .before .before .before .args in
+    let y : tie.After-reach-arg2 Inv-loop μ-loop = search in
+    let x : tie.After-reach-arg Inv-loop μ-loop = search in
+    let b : tie.At-loop Inv-loop μ-loop = search in
+    let s : tie.Start Inv-loop μ-loop = search in
+    let l = b .loop in
+    let a = s .args in
     let p = back (getD (a .firsts .now) (l .i) (pos 0)) (x .reach-arg .given) in
     let q = back (getD (a .seconds .now) (l .i) (pos 0)) (y .reach-arg2 .given) in (
       search needs,
@@ -57,8 +38,10 @@ loop-again c =
 
 returns : tie.Need-returns Inv-loop μ-loop
 returns c =
-    let l = c .before .loop in
-    let a = c .before .before .args in
+    let b : tie.At-loop Inv-loop μ-loop = search in
+    let s : tie.Start Inv-loop μ-loop = search in
+    let l = b .loop in
+    let a = s .args in
     sym (all-met 32 firstInRange secondInRange (a .firsts .now) (a .seconds .now) (l .i) (l .met) (omega arith) (omega arith)) ∙ l .inv .1
 
 pub timers-in-range-spec : {M : Type 1} → statement M
@@ -68,12 +51,12 @@ timers-in-range-spec =
     Inv-loop
     μ-loop
     loop-holds
-    mul-reach
-    shared-slice-copy-out-reach
-    mul-reach-2
-    shared-slice-copy-out-reach-2
-    reach-requires
-    add-i
-    loop-less
+    (λ c. search needs)
+    (λ c. search needs)
+    (λ c. search needs)
+    (λ c. search needs)
+    (λ c κs. search needs)
+    (λ c. search needs)
+    (λ c. search needs)
     loop-again
     returns)

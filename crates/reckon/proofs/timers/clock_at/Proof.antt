@@ -4,17 +4,10 @@ use borrow.Author.Needs.{needs}
 use Rattle.reckon.proofs.timers.clock_at.Statement.{statement}
 use Rattle.reckon.proofs.timers.clock_at.Tie as tie
 
-mul-result : tie.Need-mul-result
-mul-result c = search needs
-
-shared-slice-read-result : tie.Need-shared-slice-read-result
-shared-slice-read-result c = search needs
-
-returns : tie.Need-returns
-returns c = search needs
-
 returns-2 : tie.Need-returns-2
-returns-2 c = sym (List·getD-eq-default (c .before .args .clocks .now) 0 (c .if1 .left))
+returns-2 c =
+    let s : tie.Start = search in
+    sym (List·getD-eq-default (s .args .clocks .now) 0 (c .if1 .left))
 
 pub clock-at-spec : {M : Type 1} → statement M
-clock-at-spec = tie.close (tie.spec mul-result shared-slice-read-result returns returns-2)
+clock-at-spec = tie.close (tie.spec (λ c. search needs) (λ c. search needs) (λ c. search needs) returns-2)

@@ -5,17 +5,10 @@ use borrow.Author.Needs.{needs}
 use Rattle.reckon.proofs.timers.difference_at.Statement.{statement}
 use Rattle.reckon.proofs.timers.difference_at.Tie as tie
 
-mul-result : tie.Need-mul-result
-mul-result c = search needs
-
-shared-slice-copy-out-result : tie.Need-shared-slice-copy-out-result
-shared-slice-copy-out-result c = search needs
-
-returns : tie.Need-returns
-returns c = search needs
-
 returns-2 : tie.Need-returns-2
-returns-2 c = sym (List·getD-eq-default (c .before .args .differences .now) (pos 0) (c .if1 .left))
+returns-2 c =
+    let s : tie.Start = search in
+    sym (List·getD-eq-default (s .args .differences .now) (pos 0) (c .if1 .left))
 
 pub difference-at-spec : {M : Type 1} → statement M
-difference-at-spec = tie.close (tie.spec mul-result shared-slice-copy-out-result returns returns-2)
+difference-at-spec = tie.close (tie.spec (λ c. search needs) (λ c. search needs) (λ c. search needs) returns-2)

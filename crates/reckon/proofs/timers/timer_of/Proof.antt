@@ -4,21 +4,14 @@ use borrow.Author.Needs.{needs}
 use Rattle.reckon.proofs.timers.timer_of.Statement.{statement}
 use Rattle.reckon.proofs.timers.timer_of.Tie as tie
 
-clock-at-requires : tie.Need-clock-at-requires
-clock-at-requires c κs = search needs
-
-difference-at-requires : tie.Need-difference-at-requires
-difference-at-requires c κs = search needs
-
-difference-at-requires-2 : tie.Need-difference-at-requires-2
-difference-at-requires-2 c κs = search needs
-
 returns : tie.Need-returns
 returns c =
-    let f = c .before .before .difference-at in
+    let a : tie.After-difference-at = search in
+    let b : tie.After-clock-at = search in
+    let f = a .difference-at in
     let s = c .difference-at2 in
-    rw (back (f .result) (f .ok), back (s .result) (s .ok), c .before .before .before .before .clock-at .ensures, f .ensures, s .ensures) refl
+    rw (back (f .result) (f .ok), back (s .result) (s .ok), b .clock-at .ensures, f .ensures, s .ensures) refl
 
 pub timer-of-spec : {M : Type 1} → statement M
 timer-of-spec =
-    tie.close (tie.spec clock-at-requires difference-at-requires difference-at-requires-2 returns)
+    tie.close (tie.spec (λ c κs. search needs) (λ c κs. search needs) (λ c κs. search needs) returns)
