@@ -14,7 +14,7 @@ use Rattle.ledger.specs.Machine.{planned, planAt, stepView}
 use Rattle.ledger.specs.declared.Plan.{Plan}
 use Rattle.ledger.proofs.Picks.{pick-both}
 use Rattle.ledger.proofs.Blocking.{blocking-exact, blocking-flows}
-use Rattle.pool.proofs.Extracted.{extract-length}
+use Rattle.pool.proofs.Extracted.{laws}
 use Rattle.keeper.specs.Record.{view, fine, Outcome}
 use Rattle.keeper.specs.Calls.{public, blockingReadOf}
 use Rattle.keeper.specs.Narrative.{told}
@@ -40,7 +40,7 @@ delivers k n =
     let p = planAt (view k) (public c) in
     let none : length ((fromGenerator c p k) .bytes) ≡ 0 = rw (streams-none k n, generated-none) refl in
     ap (λ (o : Outcome). o .answer .delivered) (same k c) ∙ length-append ((forDelivery c p k) .bytes) _
-    ∙ ap₂ _+_ (extract-length blockingShape (p .deliver) _) (none ∙ sym (streams-none k n))
+    ∙ ap₂ _+_ ((laws blockingShape) .take-length (p .deliver) _) (none ∙ sym (streams-none k n))
 
 module _ (k : Keeper) (n : ℕ) (f : fine k ≡ true) (some : 1 ≤ n) (few : n ≤ 4096) where
   -- DEMAND 2: `Low` has the two thresholds, blocking count below 64 and input count below 512

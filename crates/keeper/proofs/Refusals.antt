@@ -14,7 +14,7 @@ use Rattle.ledger.specs.Machine.{planned, planAt, stepView}
 use Rattle.ledger.proofs.Still.{delivered-fits}
 use Rattle.ledger.proofs.Picks.{pick-both}
 use Rattle.pool.specs.Mixing.{mix}
-use Rattle.pool.proofs.Extracted.{extract-length}
+use Rattle.pool.proofs.Extracted.{laws}
 use Rattle.keeper.specs.Generator.{generated}
 use Rattle.keeper.specs.Record.{Outcome, refused, finished, fresh, view, blockingPool, roomAfter, made}
 use Rattle.keeper.specs.Calls.{Call, public, deviceEvent, interrupted, written, seededWith, generatorRead, blockingReadOf}
@@ -74,7 +74,7 @@ pub handed-fits : (k : Keeper) (c : Call) → length ((told k c) .bytes) ≤ ask
 unfolding step obey generated stepView planned
 handed-fits k c =
     let p = planAt (view k) (public c) in
-    let d = extract-length blockingShape (p .deliver) (mix blockingShape (blockingPool k) ((forTransfer c p k) .bytes)) in
+    let d = (laws blockingShape) .take-length (p .deliver) (mix blockingShape (blockingPool k) ((forTransfer c p k) .bytes)) in
     rw (same k c) (simp (length-append, length-take) (omega (arith, d, (delivered-fits (view k) (public c)) .0)))
 
 pub room-length : (k : Keeper) (c : Call) (room : List ℕ) → asked (public c) ≤ length room → length (roomAfter room ((told k c) .bytes)) ≡ length room

@@ -19,7 +19,7 @@ use Rattle.ledger.specs.declared.Plan.{Plan}
 use Rattle.ledger.specs.declared.Spot.{Spot}
 use Rattle.pool.specs.Mixing.{Pool, mix}
 use Rattle.pool.specs.Extracting.{extract}
-use Rattle.pool.proofs.Extracted.{mix-spot, extract-spot, extract-length, extract-runs}
+use Rattle.pool.proofs.Extracted.{laws}
 use Rattle.keeper.specs.FastPool.{stirred}
 use Rattle.keeper.specs.Generator.{ontoKey, generated}
 use Rattle.keeper.specs.Record.{timersIn, inputPool, blockingPool, view, Outcome}
@@ -66,10 +66,10 @@ fed-length false c f h = refl
 
 -- ---- where the pools' next bytes go
 mixed-to : (sh : Shape) (p : Pool) (bs : List ℕ) (n : ℕ) → length bs ≡ n → (mix sh p bs) .spot ≡ moved sh n (p .spot)
-mixed-to sh p bs n e = mix-spot sh p bs ∙ ap (λ (m : ℕ). moved sh m (p .spot)) e
+mixed-to sh p bs n e = (laws sh) .mix-spot p bs ∙ ap (λ (m : ℕ). moved sh m (p .spot)) e
 
 taken-to : (sh : Shape) (t : ℕ) (p : Pool) (s : Spot) → p .spot ≡ s → (extract sh t p) .pool .spot ≡ extractedFrom sh t s
-taken-to sh t p s e = extract-spot sh t p ∙ ap (extractedFrom sh t) e
+taken-to sh t p s e = (laws sh) .take-spot t p ∙ ap (extractedFrom sh t) e
 
 obey-shadow : (c : Call) (p : Plan) (k : Keeper) → Whole k → shown (obey c p k) ≡ planned (public c) p (view k)
 unfolding obey planned inputMoved blockingMoved
@@ -84,10 +84,10 @@ obey-shadow c p k w =
     let s = generated (p .stream) x in
     let long : length x ≡ 16 = key-length (r .bytes) (k .generator) ∙ w .generator in
     let into = taken-to inputShape (p .transfer) (r .pool) _ (taken-to inputShape (p .reseed) i _ (mixed-to inputShape (inputPool k) _ _ (fed-length (p .feeds) c f (fast-whole (p .stirs) c (k .fast) (w .fast))))) in
-    let out = taken-to blockingShape (p .deliver) b _ (mixed-to blockingShape (blockingPool k) (t .bytes) (p .transfer) (extract-length inputShape (p .transfer) (r .pool))) in
+    let out = taken-to blockingShape (p .deliver) b _ (mixed-to blockingShape (blockingPool k) (t .bytes) (p .transfer) ((laws inputShape) .take-length (p .transfer) (r .pool))) in
     let top = generated-top (p .stream) x ∙ key-top (r .bytes) (k .generator) in
-    let given : length (d .bytes ++ s .bytes) ≡ p .deliver + p .stream = length-append (d .bytes) (s .bytes) ∙ ap₂ _+_ (extract-length blockingShape (p .deliver) b) (generated-length (p .stream) x long) in
-    let runs = ap₂ _+_ (ap₂ _+_ (extract-runs inputShape (p .reseed) i) (extract-runs inputShape (p .transfer) (r .pool))) (extract-runs blockingShape (p .deliver) b) in
+    let given : length (d .bytes ++ s .bytes) ≡ p .deliver + p .stream = length-append (d .bytes) (s .bytes) ∙ ap₂ _+_ ((laws blockingShape) .take-length (p .deliver) b) (generated-length (p .stream) x long) in
+    let runs = ap₂ _+_ (ap₂ _+_ ((laws inputShape) .take-runs (p .reseed) i) ((laws inputShape) .take-runs (p .transfer) (r .pool))) ((laws blockingShape) .take-runs (p .deliver) b) in
     let made = generated-blocks (p .stream) x in
     λ j. record {
       view = record { ledger = withSpots (into j) (out j) (p .ledger); timers = timersAfter (deviceOf (public c)) p (timersIn k); fixed = top j };

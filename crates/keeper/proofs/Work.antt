@@ -9,7 +9,7 @@ use lib.ListN.{length, getD}
 use Rattle.words.proofs.Numbers.{bytesWords-lt}
 use Rattle.ledger.specs.Choice.{pick}
 use Rattle.ledger.specs.Shapes.{Shape, inputShape, blockingShape}
-use Rattle.ledger.specs.Places.{moved, movedBlocks, blocksOf}
+use Rattle.ledger.specs.Places.{moved, movedBlocks, blocksOf, extractedFrom, costs}
 use Rattle.ledger.specs.PublicCalls.{PublicCall, brings}
 use Rattle.ledger.specs.Plans.{Small, decide}
 use Rattle.ledger.specs.Range.{View}
@@ -19,7 +19,7 @@ use Rattle.ledger.specs.declared.Spot.{Spot}
 use Rattle.ledger.proofs.SmallPlans.{small}
 use Rattle.pool.specs.Mixing.{mix}
 use Rattle.pool.specs.Extracting.{extract}
-use Rattle.pool.proofs.Extracted.{extract-length}
+use Rattle.pool.proofs.Extracted.{laws}
 use Rattle.keeper.specs.Generator.{ontoKey, generated}
 use Rattle.keeper.specs.Record.{inputPool, fresh, view, Outcome}
 use Rattle.keeper.specs.Calls.{Call, public, stirredBy, payload}
@@ -39,7 +39,7 @@ onto c p k = (extract inputShape (p .reseed) (mix inputShape (inputPool k) (pick
 
 onto-few : (c : Call) (p : Plan) (k : Keeper) → Small p → length (onto c p k) ≤ 32
 unfolding onto
-onto-few c p k f = rw (extract-length inputShape (p .reseed) _) (f .reseed)
+onto-few c p k f = rw ((laws inputShape) .take-length (p .reseed) _) (f .reseed)
 
 obey-gen : (c : Call) (p : Plan) (k : Keeper) → Small p → Gen (k .generator) → Gen ((obey c p k) .keeper .generator)
 unfolding obey onto
@@ -81,7 +81,7 @@ blocks-add sh (suc a) b s = blocks-add sh a b (moved sh 20 s) ∙ ap (λ (n : �
 
 -- ---- one call, on a keeper whose lists have their lengths and whose counter is one of two words
 worked : (k : Keeper) (c : Call) → Whole k → Gen (k .generator) → Worked k (public c) ((told k c) .keeper) ((told k c) .answer)
-unfolding stepView planned inputMoved blockingMoved
+unfolding stepView planned inputMoved blockingMoved extractedFrom costs
 worked k c w g =
     let p = planAt (view k) (public c) in
     record {

@@ -11,7 +11,7 @@ use lib.IntN.{ℤ, pos, negsuc, subℕ, _-ℤ_}
 use borrow.Author.Tests.{lt-ltb, le-leb, ltb-true, ltb-false, leb-true, eqb-true}
 use Rattle.ledger.specs.Choice.{pick}
 use Rattle.ledger.specs.Shapes.{Shape, inputShape, blockingShape}
-use Rattle.ledger.specs.Places.{stepped, moved, movedBlocks, blocksOf}
+use Rattle.ledger.specs.Places.{stepped, moved, movedBlocks, blocksOf, extractedFrom}
 use Rattle.ledger.specs.Clocks.{signed, clockDiff}
 use Rattle.ledger.specs.Timers.{Timers, timerOf}
 use Rattle.ledger.specs.Marks.{counting, valued, tallied, spilled, stays}
@@ -134,6 +134,11 @@ pub blocks-placed : (sh : Shape) (n : ℕ) (s : Spot) → 0 < sh .words → Plac
 unfolding movedBlocks
 blocks-placed sh zero s h f = f
 blocks-placed sh (suc n) s h f = blocks-placed sh n (moved sh 20 s) h (moved-placed sh 20 s h f)
+
+-- so many bytes taken
+taken-placed : (sh : Shape) (k : ℕ) (s : Spot) → 0 < sh .words → Placed sh s → Placed sh (extractedFrom sh k s)
+unfolding extractedFrom
+taken-placed sh k s h f = blocks-placed sh (blocksOf k) s h f
 
 -- ---- differences
 -- a number of 32 bits read as signed
@@ -277,8 +282,8 @@ step-fine v c f =
     record {
       ledger =
           record {
-            input = record { count = g .ledger .input .count; placed = blocks-placed inputShape (blocksOf (p .transfer)) _ (omega arith) (blocks-placed inputShape (blocksOf (p .reseed)) _ (omega arith) i) };
-            blocking = record { count = g .ledger .blocking .count; placed = blocks-placed blockingShape (blocksOf (p .deliver)) _ (omega arith) b };
+            input = record { count = g .ledger .input .count; placed = taken-placed inputShape (p .transfer) _ (omega arith) (taken-placed inputShape (p .reseed) _ (omega arith) i) };
+            blocking = record { count = g .ledger .blocking .count; placed = taken-placed blockingShape (p .deliver) _ (omega arith) b };
             tally = g .ledger .tally;
           };
       firsts = pick-both (λ (ts : Timers). every firstInRange (ts .firsts) ≡ true) (p .keeps) (every-set firstInRange (v .timers .firsts) (deviceOf c) _ (f .firsts) (g .first)) (f .firsts);

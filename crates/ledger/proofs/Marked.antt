@@ -7,7 +7,7 @@ use Prim.Native.Nat.{ℕ, _+_, _-_, _/_}
 use lib.IntN.{ℤ, pos, negsuc}
 use lib.ListN.{replicate, set}
 use Rattle.ledger.specs.Choice.{pick}
-use Rattle.ledger.specs.Places.{moved, movedBlocks}
+use Rattle.ledger.specs.Places.{moved, movedBlocks, extractedFrom, costs}
 use Rattle.ledger.specs.Credits.{turnTakes, turnAdds, further, credited, taken}
 use Rattle.ledger.specs.Clocks.{signed, clockDiff, log2, estimate, eventBits}
 use Rattle.ledger.specs.Marks.{withSeeding, isSeeded, freshLedger}
@@ -188,5 +188,5 @@ table =
 
 -- in every row, what the definitions give is what it has to be
 pub marked : map (λ (row : Side × Side). row .0) table ≡ map (λ (row : Side × Side). row .1) table
-unfolding pick signed log2 estimate eventBits further credited taken ledgerInRange othersInRange moved movedBlocks firstSeeding feed planEvent planInterrupt planWrite planSeed planRead planBlockingRead planCall decide inputMoved blockingMoved planned stepView viewAfter linesFrom
+unfolding pick signed log2 estimate eventBits further credited taken ledgerInRange othersInRange moved movedBlocks extractedFrom costs firstSeeding feed planEvent planInterrupt planWrite planSeed planRead planBlockingRead planCall decide inputMoved blockingMoved planned stepView viewAfter linesFrom
 marked = refl

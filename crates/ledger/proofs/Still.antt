@@ -7,7 +7,7 @@ use native.Mathlib.Omega.{arith}
 use lib.Dec.{ltb}
 use borrow.Author.Tests.{ltb-false}
 use Rattle.ledger.specs.Choice.{pick}
-use Rattle.ledger.specs.Places.{moved, movedBlocks}
+use Rattle.ledger.specs.Places.{moved, movedBlocks, extractedFrom, costs}
 use Rattle.ledger.specs.Timers.{timerOf}
 use Rattle.ledger.specs.Range.{View, othersInRange}
 use Rattle.ledger.specs.Marks.{seedingAt}
@@ -48,7 +48,7 @@ unmoved n v = record { view = v; answer = record { number = n; delivered = 0; bl
 
 -- doing nothing shows the view as it was
 idle-unmoved : (n : ℕ) (c : PublicCall) (v : View) → planned c (idle n (v .ledger)) v ≡ unmoved n v
-unfolding planned inputMoved blockingMoved moved movedBlocks pick
+unfolding planned inputMoved blockingMoved moved movedBlocks extractedFrom costs pick
 idle-unmoved n c v = refl
 
 -- a call that is not answered 0 shows the view as it was

@@ -2,7 +2,7 @@
 use Prim.Native.Nat.{ℕ, zero, suc, _+_, _-_, _*_, _/_, _%_}
 use lib.Dec.{eqb}
 use Rattle.ledger.specs.Choice.{pick}
-use Rattle.ledger.specs.Shapes.{Shape}
+use Rattle.ledger.specs.Shapes.{Shape, rounds}
 use Rattle.ledger.specs.declared.Spot.{Spot}
 
 -- a position falls by one modulo the word count
@@ -31,6 +31,10 @@ unfoldable pub movedBlocks : Shape → ℕ → Spot → Spot
 movedBlocks sh zero s = s
 movedBlocks sh (suc n) s = movedBlocks sh n (moved sh 20 s)
 
--- k bytes are extracted
-abbrev pub extractedFrom : Shape → ℕ → Spot → Spot
+-- k bytes are extracted ..
+unfoldable pub extractedFrom : Shape → ℕ → Spot → Spot
 extractedFrom sh k s = movedBlocks sh (blocksOf k) s
+
+-- .. at so many compressions: the whole pool's for each block
+unfoldable pub costs : Shape → ℕ → ℕ
+costs sh k = rounds sh * blocksOf k

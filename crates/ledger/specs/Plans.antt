@@ -6,8 +6,8 @@ use lib.Dec.{ltb, leb, eqb}
 use Rattle.ledger.specs.Choice.{pick}
 use Rattle.ledger.specs.Sizes.{devices, longest}
 use Rattle.ledger.specs.Numbers.{done, wouldBlock, unseeded, tooLong, noSuchDevice, creditTooHigh, repeated, outOfRange}
-use Rattle.ledger.specs.Shapes.{inputShape, blockingShape, rounds}
-use Rattle.ledger.specs.Places.{blocksOf}
+use Rattle.ledger.specs.Shapes.{inputShape, blockingShape}
+use Rattle.ledger.specs.Places.{costs}
 use Rattle.ledger.specs.Credits.{credited, taken, debited, reseedTakes}
 use Rattle.ledger.specs.Clocks.{nextTimer, eventBits}
 use Rattle.ledger.specs.Timers.{freshTimer}
@@ -116,9 +116,9 @@ pub record Small (p : Plan) : Type 0 where
   pub deliver : p .deliver ≤ longest
   pub stream : p .stream ≤ longest
 
--- the compressions: for each extraction block its whole pool's
+-- the compressions of its three extractions
 abbrev pub compressionsRun : Plan → ℕ
-compressionsRun p = rounds inputShape * blocksOf (p .reseed) + rounds inputShape * blocksOf (p .transfer) + rounds blockingShape * blocksOf (p .deliver)
+compressionsRun p = costs inputShape (p .reseed) + costs inputShape (p .transfer) + costs blockingShape (p .deliver)
 
 -- the answer to a plan that is carried out; a plan without a stream runs no block
 abbrev pub answerOf : Plan → Answer

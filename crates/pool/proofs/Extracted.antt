@@ -12,13 +12,14 @@ use Rattle.words.proofs.Numbers.{length-wordsBytes}
 use Rattle.sha1.specs.Sha1.{initialHash, compressed}
 use Rattle.sha1.proofs.Lengths.{length-compressed, length-initial}
 use Rattle.ledger.specs.Shapes.{Shape, rounds}
-use Rattle.ledger.specs.Places.{moved, blocksOf, movedBlocks, extractedFrom}
+use Rattle.ledger.specs.Places.{moved, blocksOf, movedBlocks, extractedFrom, costs}
+use Rattle.ledger.specs.declared.Spot.{Spot}
 use Rattle.pool.specs.Mixing.{Pool, mixedWords, mixByte, mix}
 use Rattle.pool.specs.Extracting.{hashed, poolHash, folded, Extract, extractBlocks, extract}
 
 -- ---- mixing
 -- the place moves by the count of bytes
-pub mix-spot : (sh : Shape) (p : Pool) (bs : List ℕ) → (mix sh p bs) .spot ≡ moved sh (length bs) (p .spot)
+mix-spot : (sh : Shape) (p : Pool) (bs : List ℕ) → (mix sh p bs) .spot ≡ moved sh (length bs) (p .spot)
 unfolding mix moved
 mix-spot sh p [] = refl
 mix-spot sh p (b ∷ bs) = mix-spot sh (mixByte sh p b) bs
@@ -29,7 +30,7 @@ unfolding mixedWords
 mixed-length sh i r b ws = length-set ws i _
 
 -- so do bytes
-pub mix-length : (sh : Shape) (p : Pool) (bs : List ℕ) → length ((mix sh p bs) .words) ≡ length (p .words)
+mix-length : (sh : Shape) (p : Pool) (bs : List ℕ) → length ((mix sh p bs) .words) ≡ length (p .words)
 unfolding mix
 mix-length sh p [] = refl
 mix-length sh p (b ∷ bs) = mix-length sh (mixByte sh p b) bs ∙ mixed-length sh _ _ b (p .words)
@@ -48,17 +49,17 @@ hashed-runs zero h ws = refl
 hashed-runs (suc n) h ws = ap suc (hashed-runs n _ _)
 
 -- a hash has five words
-pub hash-length : (sh : Shape) (p : Pool) → length ((poolHash sh p) .words) ≡ 5
+hash-length : (sh : Shape) (p : Pool) → length ((poolHash sh p) .words) ≡ 5
 unfolding poolHash
 hash-length sh p = hashed-length (rounds sh) initialHash (p .words) length-initial
 
 -- and took a compression for each 64 bytes of the pool
-pub hash-runs : (sh : Shape) (p : Pool) → (poolHash sh p) .runs ≡ rounds sh
+hash-runs : (sh : Shape) (p : Pool) → (poolHash sh p) .runs ≡ rounds sh
 unfolding poolHash
 hash-runs sh p = hashed-runs (rounds sh) initialHash (p .words)
 
 -- they are mixed back as 20 bytes
-pub hash-bytes : (sh : Shape) (p : Pool) → length (wordsBytes ((poolHash sh p) .words)) ≡ 20
+hash-bytes : (sh : Shape) (p : Pool) → length (wordsBytes ((poolHash sh p) .words)) ≡ 20
 hash-bytes sh p = length-wordsBytes ((poolHash sh p) .words) ∙ ap (λ (n : ℕ). 4 * n) (hash-length sh p)
 
 -- the first ten bytes of three words
@@ -101,46 +102,34 @@ unfolding extractBlocks
 blocks-runs sh zero p = sym (mul-zero (rounds sh))
 blocks-runs sh (suc n) p = rw (hash-runs sh p, blocks-runs sh n) (add-comm (rounds sh) (rounds sh * n) ∙ sym (mul-suc (rounds sh) n))
 
--- ---- an extraction of k bytes
--- the place moves by 20 bytes for each block
-pub extract-spot : (sh : Shape) (k : ℕ) (p : Pool) → (extract sh k p) .pool .spot ≡ extractedFrom sh k (p .spot)
-extract-spot sh k p = blocks-spot sh (blocksOf k) p
+-- ---- what a theorem about calls asks of a pool: a way to mix bytes in, a way to take bytes out, and what is public of both, how they move the
+-- place and what they cost. A pool of another kind is another value of this record, and no theorem above is proved again for it.
+pub record LawsOf (mixes : Pool → List ℕ → Pool) (takes : ℕ → Pool → Extract) (moves moves-out : ℕ → Spot → Spot) (cost : ℕ → ℕ) : Type 0 where
+  -- bytes mixed in move the place by their count, and keep the count of words; none do nothing
+  pub mix-spot : (p : Pool) (bs : List ℕ) → (mixes p bs) .spot ≡ moves (length bs) (p .spot)
+  pub mix-words : (p : Pool) (bs : List ℕ) → length ((mixes p bs) .words) ≡ length (p .words)
+  pub mix-none : (p : Pool) → mixes p [] ≡ p
+  -- k bytes taken out are k, move the place, keep the count of words and are paid in compressions; to take none is to do nothing
+  pub take-length : (k : ℕ) (p : Pool) → length ((takes k p) .bytes) ≡ k
+  pub take-spot : (k : ℕ) (p : Pool) → (takes k p) .pool .spot ≡ moves-out k (p .spot)
+  pub take-words : (k : ℕ) (p : Pool) → length ((takes k p) .pool .words) ≡ length (p .words)
+  pub take-runs : (k : ℕ) (p : Pool) → (takes k p) .runs ≡ cost k
+  pub take-none : (p : Pool) → takes 0 p ≡ record { bytes = []; pool = p; runs = 0 }
 
--- the count of words stays
-pub extract-words-length : (sh : Shape) (k : ℕ) (p : Pool) → length ((extract sh k p) .pool .words) ≡ length (p .words)
-extract-words-length sh k p = blocks-words sh (blocksOf k) p
+-- those of the pools of specs/, for every shape
+abbrev pub Laws : Shape → Type 0
+Laws sh = LawsOf (mix sh) (extract sh) (moved sh) (extractedFrom sh) (costs sh)
 
--- k bytes are handed over
-pub extract-length : (sh : Shape) (k : ℕ) (p : Pool) → length ((extract sh k p) .bytes) ≡ k
-extract-length sh k p = length-take-le k ((extractBlocks sh (blocksOf k) p) .bytes) (omega (arith, blocks-length sh (blocksOf k) p))
-
--- a whole pool's compressions were run for each block
-pub extract-runs : (sh : Shape) (k : ℕ) (p : Pool) → (extract sh k p) .runs ≡ rounds sh * blocksOf k
-extract-runs sh k p = blocks-runs sh (blocksOf k) p
-
--- ---- the laws together, of any way to mix bytes in and to take bytes out: a pool of another kind is another value of this record
-pub record LawsOf (sh : Shape) (mixes : Pool → List ℕ → Pool) (takes : ℕ → Pool → Extract) : Type 0 where
-  -- bytes mixed in move the place by their count, and keep the count of words
-  pub mix-spot : (p : Pool) (bs : List ℕ) → (mixes p bs) .spot ≡ moved sh (length bs) (p .spot)
-  pub mix-length : (p : Pool) (bs : List ℕ) → length ((mixes p bs) .words) ≡ length (p .words)
-  -- so do k bytes taken out; they are k, and their blocks are paid in compressions
-  pub extract-spot : (k : ℕ) (p : Pool) → (takes k p) .pool .spot ≡ extractedFrom sh k (p .spot)
-  pub extract-words-length : (k : ℕ) (p : Pool) → length ((takes k p) .pool .words) ≡ length (p .words)
-  pub extract-length : (k : ℕ) (p : Pool) → length ((takes k p) .bytes) ≡ k
-  pub extract-runs : (k : ℕ) (p : Pool) → (takes k p) .runs ≡ rounds sh * blocksOf k
-
--- those of the pools of specs/
-abbrev pub PoolLaws : Shape → Type 0
-PoolLaws sh = LawsOf sh (mix sh) (extract sh)
-
--- all of them, for every shape
-pub laws : (sh : Shape) → PoolLaws sh
+pub laws : (sh : Shape) → Laws sh
+unfolding mix extractBlocks extractedFrom costs
 laws sh =
     record {
       mix-spot = mix-spot sh;
-      mix-length = mix-length sh;
-      extract-spot = extract-spot sh;
-      extract-words-length = extract-words-length sh;
-      extract-length = extract-length sh;
-      extract-runs = extract-runs sh;
+      mix-words = mix-length sh;
+      mix-none = λ p. refl;
+      take-length = λ k p. length-take-le k ((extractBlocks sh (blocksOf k) p) .bytes) (omega (arith, blocks-length sh (blocksOf k) p));
+      take-spot = λ k p. blocks-spot sh (blocksOf k) p;
+      take-words = λ k p. blocks-words sh (blocksOf k) p;
+      take-runs = λ k p. blocks-runs sh (blocksOf k) p;
+      take-none = λ p. refl;
     }

@@ -14,7 +14,7 @@ use Rattle.ledger.specs.Machine.{timersAfter}
 use Rattle.ledger.specs.declared.Plan.{Plan}
 use Rattle.pool.specs.Mixing.{Pool, mix}
 use Rattle.pool.specs.Extracting.{Extract, extractBlocks, extract}
-use Rattle.pool.proofs.Extracted.{extract-length, extract-runs}
+use Rattle.pool.proofs.Extracted.{laws}
 use Rattle.keeper.specs.Generator.{xorAt, ontoKey, Stream, stream, generated}
 use Rattle.keeper.specs.Record.{timersIn, inputPool, blockingPool, keeperOf, roomAfter}
 use Rattle.keeper.specs.Calls.{Call, public, stirredBy, payload}
@@ -36,8 +36,8 @@ answer-is c p k w =
     let d = extract blockingShape (p .deliver) b in
     let x = ontoKey (r .bytes) (k .generator) in
     let s = generated (p .stream) x in
-    let given : length (d .bytes ++ s .bytes) ≡ p .deliver + p .stream = length-append (d .bytes) (s .bytes) ∙ ap₂ _+_ (extract-length blockingShape (p .deliver) b) w in
-    let runs = ap₂ _+_ (ap₂ _+_ (extract-runs inputShape (p .reseed) i) (extract-runs inputShape (p .transfer) (r .pool))) (extract-runs blockingShape (p .deliver) b) in
+    let given : length (d .bytes ++ s .bytes) ≡ p .deliver + p .stream = length-append (d .bytes) (s .bytes) ∙ ap₂ _+_ ((laws blockingShape) .take-length (p .deliver) b) w in
+    let runs = ap₂ _+_ (ap₂ _+_ ((laws inputShape) .take-runs (p .reseed) i) ((laws inputShape) .take-runs (p .transfer) (r .pool))) ((laws blockingShape) .take-runs (p .deliver) b) in
     let made = generated-blocks (p .stream) x in
     λ j. record { number = p .number; delivered = given j; blocks = made j; compressions = runs j }
 

@@ -22,7 +22,7 @@ use Rattle.ledger.specs.declared.Timer.{Timer}
 use Rattle.ledger.specs.declared.Spot.{Spot}
 use Rattle.pool.specs.Mixing.{Pool, mix}
 use Rattle.pool.specs.Extracting.{Extract, extract}
-use Rattle.pool.proofs.Extracted.{mix-length, extract-length}
+use Rattle.pool.proofs.Extracted.{laws}
 use Rattle.mixer.specs.Sizes.{shapeOf, InPool}
 use Rattle.keeper.specs.FastPool.{stirred}
 use Rattle.keeper.specs.Generator.{xorAt, ontoKey, Stream, generated}
@@ -121,7 +121,7 @@ mixed ws xs s u bs h e = e ∙ ap (λ (sh : Shape). mix sh (record { words = ws;
 pub mixed-128 : (ws xs : List ℕ) (s u : Spot) (bs : List ℕ) → length ws ≡ inputWords
     → _≡_ {A = Pool} (record { words = xs; spot = u }) (mix (shapeOf (length ws)) (record { words = ws; spot = s }) bs)
     → length xs ≡ inputWords
-mixed-128 ws xs s u bs h e = ap (λ (q : Pool). length (q .words)) e ∙ mix-length (shapeOf (length ws)) (record { words = ws; spot = s }) bs ∙ h
+mixed-128 ws xs s u bs h e = ap (λ (q : Pool). length (q .words)) e ∙ (laws (shapeOf (length ws))) .mix-words (record { words = ws; spot = s }) bs ∙ h
 
 -- what a reseed makes of a pool, given as words and spot, or of one that equals it
 reseeded : (ws : List ℕ) (s : Spot) (q : Pool) (t : ℕ) → length ws ≡ inputWords → _≡_ {A = Pool} (record { words = ws; spot = s }) q
@@ -308,11 +308,11 @@ blocking-done k room p xs ys zs u v w out ep sh hi hb ex eu em ez ew eo =
     reseeded (k .input) (k .ledger .input .spot) (inputPool k) (p .transfer) hi refl ∙ sym (blocking-takes p k (length room) (sh .feeds) (sh .reseed)) in
     let m : _≡_ {A = Pool} (record { words = ys; spot = v }) (mix blockingShape (blockingPool k) ((forTransfer c p k) .bytes)) =
     em ∙ ap₂ (λ (s : Shape) (e : Extract). mix s (blockingPool k) (e .bytes)) (shape-32 (length (k .blocking)) hb) r in
-    let long : length ys ≡ blockingWords = ap (λ (q : Pool). length (q .words)) m ∙ mix-length blockingShape (blockingPool k) _ ∙ hb in
+    let long : length ys ≡ blockingWords = ap (λ (q : Pool). length (q .words)) m ∙ (laws blockingShape) .mix-words (blockingPool k) _ ∙ hb in
     let d : extract (shapeOf (length ys)) (p .deliver) (record { words = ys; spot = v }) ≡ forDelivery c p k =
     ap₂ (λ (s : Shape) (q : Pool). extract s (p .deliver) q) (shape-32 (length ys) long) m in
     let front : roomAfter room ((forDelivery c p k) .bytes) ≡ (forDelivery c p k) .bytes ++ drop (p .deliver) room =
-    in-front room ((forDelivery c p k) .bytes) (p .deliver) (extract-length blockingShape (p .deliver) _) in
+    in-front room ((forDelivery c p k) .bytes) (p .deliver) ((laws blockingShape) .take-length (p .deliver) _) in
     parts (ap₂ (λ (a b : Spot). withSpots a b (p .ledger)) (eu ∙ ap (λ (e : Extract). e .pool .spot) r) (ew ∙ ap (λ (e : Extract). e .pool .spot) d))
     (sym (kept-off p 0 (timersIn k) (sh .keeps)))
     (ex ∙ ap (λ (e : Extract). e .pool .words) r)
