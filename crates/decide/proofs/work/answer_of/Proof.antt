@@ -1,5 +1,6 @@
 use native.Mathlib.Omega.{arith}
 use Prim.Native.Nat.{_+_, _≤_}
+use Rattle.ledger.specs.Places.{costs}
 use Rattle.ledger.specs.Streams.{streamBlocks}
 use Rattle.ledger.proofs.Picks.{pick-both}
 use borrow.Author.Needs.{needs}
@@ -11,6 +12,10 @@ cast-blocks c =
     let s : tie.Start = search in
     let most : streamBlocks (s .args .p .stream) ≤ 65 = pick-both (λ n. n ≤ 65) _ (omega arith) (omega arith) in
     omega (arith, most, c .stream-blocks .ensures)
+
+cast-compressions : tie.Need-cast-compressions
+unfolding costs
+cast-compressions c = search needs
 
 returns : tie.Need-returns
 returns c =
@@ -32,6 +37,6 @@ answer-of-spec =
     (λ c κs. search needs)
     cast-blocks
     (λ c κs. search needs)
-    (λ c. search needs)
+    cast-compressions
     (λ c. search needs)
     returns)
