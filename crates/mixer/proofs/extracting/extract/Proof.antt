@@ -36,9 +36,6 @@ mix-back-requires c κs =
     let i = c .before .before .before .before .loop .inv in
     rw (i .1 .0) (i .1 .1 .1 .0)
 
-folded-requires : tie.Need-folded-requires Inv-loop μ-loop
-folded-requires c κs = search needs
-
 put-block-requires : tie.Need-put-block-requires Inv-loop μ-loop
 put-block-requires c κs = c .before .before .before .before .before .before .before .before .before .loop .inv .0
 
@@ -86,16 +83,5 @@ returns c =
 pub extract-spec : {M : Type 1} → statement M
 extract-spec =
     tie.close
-    (tie.spec
-    Inv-loop
-    μ-loop
-    loop-holds
-    hash-pool-requires
-    mix-back-requires
-    folded-requires
-    put-block-requires
-    loop-less
-    loop-again
-    same-length
-    same-length-2
-    returns)
+    (tie.spec Inv-loop μ-loop loop-holds hash-pool-requires mix-back-requires (λ c κs. search needs) put-block-requires loop-less loop-again
+    same-length same-length-2 returns)

@@ -20,9 +20,6 @@ Inv-loop ws h₀ k₀ h k =
 abbrev μ-loop : tie.MeasureT-loop
 μ-loop ws h₀ k₀ h k = length ws - k
 
-initial-hash-requires : tie.Need-initial-hash-requires Inv-loop μ-loop
-initial-hash-requires c κs = search needs
-
 loop-holds : tie.Need-loop-holds Inv-loop μ-loop
 loop-holds c = (omega arith, (refl, rw (c .initial-hash .ensures, hash-start _ (c .before .before .pre))))
 
@@ -30,15 +27,6 @@ message-requires : tie.Need-message-requires Inv-loop μ-loop
 message-requires c κs =
     let b = in-blocks _ (c .before .before .before .before .pre) in
     omega arith
-
-compress-requires : tie.Need-compress-requires Inv-loop μ-loop
-compress-requires c κs = search needs
-
-add-k : tie.Need-add-k Inv-loop μ-loop
-add-k c = search needs
-
-loop-less : tie.Need-loop-less Inv-loop μ-loop
-loop-less c = omega arith
 
 loop-again : tie.Need-loop-again Inv-loop μ-loop
 loop-again c =
@@ -53,14 +41,5 @@ returns c = hash-done (c .before .before .before .before .args .ws .now) _ _ (c 
 pub hash-pool-spec : {M : Type 1} → statement M
 hash-pool-spec =
     tie.close
-    (tie.spec
-    Inv-loop
-    μ-loop
-    initial-hash-requires
-    loop-holds
-    message-requires
-    compress-requires
-    add-k
-    loop-less
-    loop-again
-    returns)
+    (tie.spec Inv-loop μ-loop (λ c κs. search needs) loop-holds message-requires (λ c κs. search needs) (λ c. search needs) (λ c. omega arith)
+    loop-again returns)

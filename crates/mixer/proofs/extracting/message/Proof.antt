@@ -18,30 +18,6 @@ abbrev μ-loop : tie.MeasureT-loop
 loop-holds : tie.Need-loop-holds Inv-loop μ-loop
 loop-holds c = (omega arith, (refl, refl))
 
-add-swap-bytes : tie.Need-add-swap-bytes Inv-loop μ-loop
-add-swap-bytes c = search needs
-
-mul-swap-bytes : tie.Need-mul-swap-bytes Inv-loop μ-loop
-mul-swap-bytes c = search needs
-
-shared-slice-read-swap-bytes : tie.Need-shared-slice-read-swap-bytes Inv-loop μ-loop
-shared-slice-read-swap-bytes c = search needs
-
-swap-bytes-requires : tie.Need-swap-bytes-requires Inv-loop μ-loop
-swap-bytes-requires c κs = search needs
-
-mul-m : tie.Need-mul-m Inv-loop μ-loop
-mul-m c = search needs
-
-array-write-m : tie.Need-array-write-m Inv-loop μ-loop
-array-write-m c = search needs
-
-add-i : tie.Need-add-i Inv-loop μ-loop
-add-i c = search needs
-
-loop-less : tie.Need-loop-less Inv-loop μ-loop
-loop-less c = search needs
-
 loop-again : tie.Need-loop-again Inv-loop μ-loop
 loop-again c =
     let l = c .before .before .before .loop in
@@ -57,17 +33,5 @@ returns c =
 pub message-spec : {M : Type 1} → statement M
 message-spec =
     tie.close
-    (tie.spec
-    Inv-loop
-    μ-loop
-    loop-holds
-    add-swap-bytes
-    mul-swap-bytes
-    shared-slice-read-swap-bytes
-    swap-bytes-requires
-    mul-m
-    array-write-m
-    add-i
-    loop-less
-    loop-again
-    returns)
+    (tie.spec Inv-loop μ-loop loop-holds (λ c. search needs) (λ c. search needs) (λ c. search needs) (λ c κs. search needs) (λ c. search needs)
+    (λ c. search needs) (λ c. search needs) (λ c. search needs) loop-again returns)

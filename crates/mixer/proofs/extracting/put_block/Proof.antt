@@ -15,29 +15,8 @@ Inv-loop out₀ k b n i₀ out i = (i ≤ n) × ((length out ≡ length out₀) 
 abbrev μ-loop : tie.MeasureT-loop
 μ-loop out₀ k b n i₀ out i = n - i
 
-sub-ten-of : tie.Need-sub-ten-of Inv-loop μ-loop
-sub-ten-of c = search needs
-
-ten-of-requires : tie.Need-ten-of-requires Inv-loop μ-loop
-ten-of-requires c κs = search needs
-
 loop-holds : tie.Need-loop-holds Inv-loop μ-loop
 loop-holds c = (omega arith, (refl, refl))
-
-array-read-out : tie.Need-array-read-out Inv-loop μ-loop
-array-read-out c = search needs
-
-add-out : tie.Need-add-out Inv-loop μ-loop
-add-out c = search needs
-
-slice-write-out : tie.Need-slice-write-out Inv-loop μ-loop
-slice-write-out c = search needs
-
-add-i : tie.Need-add-i Inv-loop μ-loop
-add-i c = search needs
-
-loop-less : tie.Need-loop-less Inv-loop μ-loop
-loop-less c = search needs
 
 loop-again : tie.Need-loop-again Inv-loop μ-loop
 loop-again c =
@@ -45,12 +24,6 @@ loop-again c =
     let a = c .before .before .before .before .args in
     let n = c .before .before .ten-of .ensures in
     (omega arith, (simp length-set (l .inv .1 .0), rw (add-one, l .inv .1 .1) (sets-suc (a .out .now) (a .k) (a .t3) (l .i) (omega arith))))
-
-add-result : tie.Need-add-result Inv-loop μ-loop
-add-result c = search needs
-
-same-length : tie.Need-same-length Inv-loop μ-loop
-same-length c = search needs
 
 returns : tie.Need-returns Inv-loop μ-loop
 returns c =
@@ -62,18 +35,5 @@ returns c =
 pub put-block-spec : {M : Type 1} → statement M
 put-block-spec =
     tie.close
-    (tie.spec
-    Inv-loop
-    μ-loop
-    sub-ten-of
-    ten-of-requires
-    loop-holds
-    array-read-out
-    add-out
-    slice-write-out
-    add-i
-    loop-less
-    loop-again
-    add-result
-    same-length
-    returns)
+    (tie.spec Inv-loop μ-loop (λ c. search needs) (λ c κs. search needs) loop-holds (λ c. search needs) (λ c. search needs) (λ c. search needs)
+    (λ c. search needs) (λ c. search needs) loop-again (λ c. search needs) (λ c. search needs) returns)

@@ -17,29 +17,14 @@ Inv-loop ws₀ table bytes t p₀ k₀ ws p k = (k ≤ length bytes) × Mixed ws
 abbrev μ-loop : tie.MeasureT-loop
 μ-loop ws₀ table bytes t p₀ k₀ ws p k = length bytes - k
 
-taps-of-requires : tie.Need-taps-of-requires Inv-loop μ-loop
-taps-of-requires c κs = search needs
-
-place-of-requires : tie.Need-place-of-requires Inv-loop μ-loop
-place-of-requires c κs = search needs
-
 loop-holds : tie.Need-loop-holds Inv-loop μ-loop
 loop-holds c = (omega arith, mixed-none _ _ (c .place-of .ensures .1))
-
-shared-slice-read-put : tie.Need-shared-slice-read-put Inv-loop μ-loop
-shared-slice-read-put c = search needs
 
 put-requires : tie.Need-put-requires Inv-loop μ-loop
 put-requires c κs =
     let l = c .before .before .before in
     let i = l .loop .inv .1 in
     (search needs, (i .stands, rw (i .as-many) (l .before .before .before .taps-of .ensures)))
-
-add-k : tie.Need-add-k Inv-loop μ-loop
-add-k c = search needs
-
-loop-less : tie.Need-loop-less Inv-loop μ-loop
-loop-less c = omega arith
 
 loop-again : tie.Need-loop-again Inv-loop μ-loop
 loop-again c =
@@ -68,17 +53,5 @@ returns c =
 pub mix-by-spec : {M : Type 1} → statement M
 mix-by-spec =
     tie.close
-    (tie.spec
-    Inv-loop
-    μ-loop
-    taps-of-requires
-    place-of-requires
-    loop-holds
-    shared-slice-read-put
-    put-requires
-    add-k
-    loop-less
-    loop-again
-    spot-of-requires
-    same-length
-    returns)
+    (tie.spec Inv-loop μ-loop (λ c κs. search needs) (λ c κs. search needs) loop-holds (λ c. search needs) put-requires (λ c. search needs)
+    (λ c. omega arith) loop-again spot-of-requires same-length returns)

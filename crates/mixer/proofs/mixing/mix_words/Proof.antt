@@ -19,36 +19,15 @@ Inv-loop ws₀ words t table p₀ k₀ ws p k = (k ≤ length words) × Mixed ws
 abbrev μ-loop : tie.MeasureT-loop
 μ-loop ws₀ words t table p₀ k₀ ws p k = length words - k
 
-taps-of-requires : tie.Need-taps-of-requires Inv-loop μ-loop
-taps-of-requires c κs = search needs
-
-place-of-requires : tie.Need-place-of-requires Inv-loop μ-loop
-place-of-requires c κs = search needs
-
 loop-holds : tie.Need-loop-holds Inv-loop μ-loop
 unfolding wordsBytes
 loop-holds c = (omega arith, mixed-none _ _ (c .place-of .ensures .1))
-
-slice-aggregate-put-word : tie.Need-slice-aggregate-put-word Inv-loop μ-loop
-slice-aggregate-put-word c = search needs
-
-mul-put-word : tie.Need-mul-put-word Inv-loop μ-loop
-mul-put-word c = search needs
-
-shared-slice-read-put-word : tie.Need-shared-slice-read-put-word Inv-loop μ-loop
-shared-slice-read-put-word c = search needs
 
 put-word-requires : tie.Need-put-word-requires Inv-loop μ-loop
 put-word-requires c κs =
     let l = c .before .before .before .before in
     let i = l .loop .inv .1 in
     (refl, (i .stands, rw (i .as-many) (l .before .before .before .taps-of .ensures)))
-
-add-k : tie.Need-add-k Inv-loop μ-loop
-add-k c = search needs
-
-loop-less : tie.Need-loop-less Inv-loop μ-loop
-loop-less c = omega arith
 
 loop-again : tie.Need-loop-again Inv-loop μ-loop
 loop-again c =
@@ -77,19 +56,5 @@ returns c =
 pub mix-words-spec : {M : Type 1} → statement M
 mix-words-spec =
     tie.close
-    (tie.spec
-    Inv-loop
-    μ-loop
-    taps-of-requires
-    place-of-requires
-    loop-holds
-    slice-aggregate-put-word
-    mul-put-word
-    shared-slice-read-put-word
-    put-word-requires
-    add-k
-    loop-less
-    loop-again
-    spot-of-requires
-    same-length
-    returns)
+    (tie.spec Inv-loop μ-loop (λ c κs. search needs) (λ c κs. search needs) loop-holds (λ c. search needs) (λ c. search needs) (λ c. search needs)
+    put-word-requires (λ c. search needs) (λ c. omega arith) loop-again spot-of-requires same-length returns)

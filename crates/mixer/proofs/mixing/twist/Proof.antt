@@ -9,12 +9,6 @@ use borrow.Author.Needs.{needs}
 use Rattle.mixer.proofs.mixing.twist.Statement.{statement}
 use Rattle.mixer.proofs.mixing.twist.Tie as tie
 
-cast-k : tie.Need-cast-k
-cast-k c = search needs
-
-mul-result : tie.Need-mul-result
-mul-result c = search needs
-
 shared-slice-read-result : tie.Need-shared-slice-read-result
 shared-slice-read-result c =
     let l = ap length (c .before .pre) in
@@ -25,4 +19,4 @@ unfolding twisted
 returns c = rw (c .before .pre) refl
 
 pub twist-spec : {M : Type 1} → statement M
-twist-spec = tie.close (tie.spec cast-k mul-result shared-slice-read-result returns)
+twist-spec = tie.close (tie.spec (λ c. search needs) (λ c. search needs) shared-slice-read-result returns)
