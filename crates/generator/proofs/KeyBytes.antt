@@ -11,7 +11,7 @@ use Rattle.chacha.specs.Chacha.{chachaBlock, serialize}
 use Rattle.ledger.specs.Choice.{pick}
 use Rattle.ledger.specs.Plans.{wholeBlocks, usedUp}
 use Rattle.keeper.specs.Generator.{xorAt, ontoKey, counted, stream, generated}
-use Rattle.keeper.proofs.Counter.{xor-length, stream-length, stream-keeps-length}
+use Rattle.keeper.proofs.Counter.{stream-length, stream-keeps-length}
 use Rattle.generator.proofs.Laying.{bytes-more}
 
 -- a read's bytes

@@ -1,4 +1,4 @@
-use mathlib.Core.Path.{_≡_, sym, ap}
+use mathlib.Core.Path.{sym, ap}
 use Rattle.pool.specs.Extracting.{Extract}
 use Rattle.flows.proofs.Laid.{none-out, onto-none}
 use borrow.Author.Needs.{needs}

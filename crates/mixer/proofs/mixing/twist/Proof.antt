@@ -1,10 +1,7 @@
-use mathlib.Core.Path.{refl, ap, _∙_}
+use mathlib.Core.Path.{refl, ap}
 use native.Mathlib.Omega.{arith}
-use Prim.Native.Nat.{ℕ}
-use mathlib.Core.List.{List}
-use lib.ListN.{length, getD}
-use lib.Bits.{bitXor}
-use Rattle.pool.specs.Mixing.{twisted, twistTable}
+use lib.ListN.{length}
+use Rattle.pool.specs.Mixing.{twisted}
 use borrow.Author.Needs.{needs}
 use Rattle.mixer.proofs.mixing.twist.Statement.{statement}
 use Rattle.mixer.proofs.mixing.twist.Tie as tie
