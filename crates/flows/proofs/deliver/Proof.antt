@@ -8,22 +8,10 @@ use borrow.Author.Needs.{needs}
 use Rattle.flows.proofs.deliver.Statement.{statement}
 use Rattle.flows.proofs.deliver.Tie as tie
 
-slice-relend-prefix-extract : tie.Need-slice-relend-prefix-extract
-slice-relend-prefix-extract c = search needs
-
 slice-aggregate-extract : tie.Need-slice-aggregate-extract
 slice-aggregate-extract c =
     let a = c .before .before .before .before .args in
     sym (length-take-le (a .d) (a .out .now) (omega arith))
-
-extract-requires : tie.Need-extract-requires
-extract-requires c κs = search needs
-
-same-length : tie.Need-same-length
-same-length c = search needs
-
-same-length-2 : tie.Need-same-length-2
-same-length-2 c = search needs
 
 returns : tie.Need-returns
 returns c =
@@ -33,12 +21,4 @@ returns c =
     (rw n at (e .0), (rw n at (e .1 .0), ap (λ (b : List ℕ). b ++ drop (a .d) (a .out .now)) (rw n at (e .1 .1 .0))))
 
 pub deliver-spec : {M : Type 1} → statement M
-deliver-spec =
-    tie.close
-    (tie.spec
-    slice-relend-prefix-extract
-    slice-aggregate-extract
-    extract-requires
-    same-length
-    same-length-2
-    returns)
+deliver-spec = tie.close (tie.spec (λ c. search needs) slice-aggregate-extract (λ c κs. search needs) (λ c. search needs) (λ c. search needs) returns)

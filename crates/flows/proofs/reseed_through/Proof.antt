@@ -8,19 +8,10 @@ use borrow.Author.Needs.{needs}
 use Rattle.flows.proofs.reseed_through.Statement.{statement}
 use Rattle.flows.proofs.reseed_through.Tie as tie
 
-slice-relend-prefix-extract : tie.Need-slice-relend-prefix-extract
-slice-relend-prefix-extract c = search needs
-
 slice-aggregate-extract : tie.Need-slice-aggregate-extract
 slice-aggregate-extract c =
     let a = c .before .before .before .before .before .args in
     sym (length-take-le (a .n) (a .room .now) (omega arith))
-
-extract-requires : tie.Need-extract-requires
-extract-requires c κs = search needs
-
-slice-reshare-prefix-onto-key : tie.Need-slice-reshare-prefix-onto-key
-slice-reshare-prefix-onto-key c = search needs
 
 slice-aggregate-onto-key : tie.Need-slice-aggregate-onto-key
 slice-aggregate-onto-key c =
@@ -41,15 +32,6 @@ onto-key-requires c κs =
     let f = front-length (a .n) (c .before .before .before .before .before .before .extract .last .1 .1 .0) (drop (a .n) (a .room .now)) l in
     (search needs, omega (arith, f))
 
-same-length : tie.Need-same-length
-same-length c = search needs
-
-same-length-2 : tie.Need-same-length-2
-same-length-2 c = search needs
-
-same-length-3 : tie.Need-same-length-3
-same-length-3 c = search needs
-
 returns : tie.Need-returns
 returns c =
     let a = c .before .before .before .before .before .before .before .before .before .before .before .before .before .before .before .args in
@@ -63,14 +45,5 @@ returns c =
 pub reseed-through-spec : {M : Type 1} → statement M
 reseed-through-spec =
     tie.close
-    (tie.spec
-    slice-relend-prefix-extract
-    slice-aggregate-extract
-    extract-requires
-    slice-reshare-prefix-onto-key
-    slice-aggregate-onto-key
-    onto-key-requires
-    same-length
-    same-length-2
-    same-length-3
-    returns)
+    (tie.spec (λ c. search needs) slice-aggregate-extract (λ c κs. search needs) (λ c. search needs) slice-aggregate-onto-key onto-key-requires
+    (λ c. search needs) (λ c. search needs) (λ c. search needs) returns)

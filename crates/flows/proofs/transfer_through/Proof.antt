@@ -8,19 +8,10 @@ use borrow.Author.Needs.{needs}
 use Rattle.flows.proofs.transfer_through.Statement.{statement}
 use Rattle.flows.proofs.transfer_through.Tie as tie
 
-slice-relend-prefix-extract : tie.Need-slice-relend-prefix-extract
-slice-relend-prefix-extract c = search needs
-
 slice-aggregate-extract : tie.Need-slice-aggregate-extract
 slice-aggregate-extract c =
     let a = c .before .before .before .before .before .args in
     sym (length-take-le (a .n) (a .room .now) (omega arith))
-
-extract-requires : tie.Need-extract-requires
-extract-requires c κs = search needs
-
-slice-reshare-prefix-mix : tie.Need-slice-reshare-prefix-mix
-slice-reshare-prefix-mix c = search needs
 
 slice-aggregate-mix : tie.Need-slice-aggregate-mix
 slice-aggregate-mix c =
@@ -30,18 +21,6 @@ slice-aggregate-mix c =
     let b = rw n at (e .1 .1 .0) in
     let l = ap length b ∙ extract-length _ (a .n) _ in
     front-length (a .n) (c .before .before .before .before .before .before .extract .last .1 .1 .0) (drop (a .n) (a .room .now)) l
-
-mix-requires : tie.Need-mix-requires
-mix-requires c κs = search needs
-
-same-length : tie.Need-same-length
-same-length c = search needs
-
-same-length-2 : tie.Need-same-length-2
-same-length-2 c = search needs
-
-same-length-3 : tie.Need-same-length-3
-same-length-3 c = search needs
 
 returns : tie.Need-returns
 returns c =
@@ -57,14 +36,5 @@ returns c =
 pub transfer-through-spec : {M : Type 1} → statement M
 transfer-through-spec =
     tie.close
-    (tie.spec
-    slice-relend-prefix-extract
-    slice-aggregate-extract
-    extract-requires
-    slice-reshare-prefix-mix
-    slice-aggregate-mix
-    mix-requires
-    same-length
-    same-length-2
-    same-length-3
-    returns)
+    (tie.spec (λ c. search needs) slice-aggregate-extract (λ c κs. search needs) (λ c. search needs) slice-aggregate-mix (λ c κs. search needs)
+    (λ c. search needs) (λ c. search needs) (λ c. search needs) returns)
