@@ -10,13 +10,16 @@ use Rattle.flows.proofs.deliver.Tie as tie
 
 slice-aggregate-extract : tie.Need-slice-aggregate-extract
 slice-aggregate-extract c =
-    let a = c .before .before .before .before .args in
+    let start : tie.Start = search in
+    let a = start .args in
     sym (length-take-le (a .d) (a .out .now) (omega arith))
 
 returns : tie.Need-returns
 returns c =
-    let e = c .before .before .before .before .extract .ensures in
-    let a = c .before .before .before .before .before .before .before .before .before .args in
+    let x : tie.After-extract = search in
+    let e = x .extract .ensures in
+    let start : tie.Start = search in
+    let a = start .args in
     let n = length-take-le (a .d) (a .out .now) (omega arith) in
     (rw n at (e .0), (rw n at (e .1 .0), ap (λ (b : List ℕ). b ++ drop (a .d) (a .out .now)) (rw n at (e .1 .1 .0))))
 

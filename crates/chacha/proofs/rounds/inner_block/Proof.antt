@@ -24,9 +24,4 @@ returns c =
     (u .quarter5 .ensures) (v .quarter7 .ensures) (c .quarter8 .ensures) (x .quarter6 .ensures)
 
 pub inner-block-spec : {M : Type 1} → statement M
-inner-block-spec =
-    tie.close
-    (tie.spec (λ c. search needs) (λ c. search needs) (λ c. search needs) (λ c. search needs) (λ c κs. search needs) (λ c. search needs)
-    (λ c. search needs) (λ c. search needs) (λ c. search needs) (λ c κs. search needs) (λ c. search needs) (λ c. search needs) (λ c. search needs)
-    (λ c. search needs) (λ c κs. search needs) (λ c. search needs) (λ c. search needs) (λ c. search needs) (λ c. search needs) (λ c κs. search needs)
-    (λ c κs. search needs) (λ c κs. search needs) (λ c κs. search needs) (λ c κs. search needs) returns)
+inner-block-spec = tie.close (search (tie.spec, returns, needs))

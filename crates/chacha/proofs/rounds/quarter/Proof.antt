@@ -8,7 +8,4 @@ unfolding quarter
 returns c = rw (c .rotate-left4 .ensures, c .before .wrapping-add-u324 .ensures, c .before .before .rotate-left3 .ensures, c .before .before .before .wrapping-add-u323 .ensures, c .before .before .before .before .rotate-left2 .ensures, c .before .before .before .before .before .wrapping-add-u322 .ensures, c .before .before .before .before .before .before .rotate-left .ensures, c .before .before .before .before .before .before .before .wrapping-add-u32 .ensures)
 
 pub quarter-spec : {M : Type 1} → statement M
-quarter-spec =
-    tie.close
-    (tie.spec (λ c κs. search needs) (λ c κs. search needs) (λ c κs. search needs) (λ c κs. search needs) (λ c κs. search needs)
-    (λ c κs. search needs) (λ c κs. search needs) (λ c κs. search needs) returns)
+quarter-spec = tie.close (search (tie.spec, returns, needs))
