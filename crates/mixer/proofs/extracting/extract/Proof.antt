@@ -28,32 +28,44 @@ loop-holds c = (omega arith, (refl, (refl, (search needs, left-start _ _ _))))
 
 hash-pool-requires : tie.Need-hash-pool-requires Inv-loop μ-loop
 hash-pool-requires c κs =
-    let i = c .before .before .loop .inv in
+    let at-loop : tie.At-loop Inv-loop μ-loop = search in
+    let i = at-loop .loop .inv in
     rw (i .1 .0) (i .1 .1 .1 .0 .size)
 
 mix-back-requires : tie.Need-mix-back-requires Inv-loop μ-loop
 mix-back-requires c κs =
-    let i = c .before .before .before .before .loop .inv in
+    let at-loop : tie.At-loop Inv-loop μ-loop = search in
+    let i = at-loop .loop .inv in
     rw (i .1 .0) (i .1 .1 .1 .0)
 
 put-block-requires : tie.Need-put-block-requires Inv-loop μ-loop
-put-block-requires c κs = c .before .before .before .before .before .before .before .before .before .loop .inv .0
+put-block-requires c κs =
+    let at-mix-back : tie.After-mix-back Inv-loop μ-loop = search in
+    let at-loop : tie.At-loop Inv-loop μ-loop = search in
+    at-loop .loop .inv .0
 
 loop-less : tie.Need-loop-less Inv-loop μ-loop
 loop-less c =
-    let p = c .before .before .put-block in
-    let t = c .before .before .before .before .before .before .before .before .before .before .before in
-    let l = t .before .loop in
+    let at-put-block : tie.After-put-block Inv-loop μ-loop = search in
+    let at-ws : tie.After-ws Inv-loop μ-loop = search in
+    let t : tie.In-loop Inv-loop μ-loop = search in
+    let at-loop : tie.At-loop Inv-loop μ-loop = search in
+    let p = at-put-block .put-block in
+    let l = at-loop .loop in
     omega (arith, p .kept .0, p .ensures .1, t .loop-test .taken)
 
 loop-again : tie.Need-loop-again Inv-loop μ-loop
 loop-again c =
-    let p = c .before .before .put-block in
-    let f = c .before .before .before .folded in
-    let m = c .before .before .before .before .before .before .before .mix-back in
-    let h = c .before .before .before .before .before .before .before .before .before in
-    let t = h .before .before in
-    let l = t .before .loop in
+    let at-put-block : tie.After-put-block Inv-loop μ-loop = search in
+    let at-folded : tie.After-folded Inv-loop μ-loop = search in
+    let at-mix-back : tie.After-mix-back Inv-loop μ-loop = search in
+    let h : tie.After-hash-pool Inv-loop μ-loop = search in
+    let t : tie.In-loop Inv-loop μ-loop = search in
+    let at-loop : tie.At-loop Inv-loop μ-loop = search in
+    let p = at-put-block .put-block in
+    let f = at-folded .folded in
+    let m = at-mix-back .mix-back in
+    let l = at-loop .loop in
     let i = l .inv in (
       omega (arith, p .kept .0, p .ensures .1, i .0),
       (
@@ -69,15 +81,20 @@ loop-again c =
     )
 
 same-length : tie.Need-same-length Inv-loop μ-loop
-same-length c = c .before .loop .inv .1 .0
+same-length c =
+    let at-loop : tie.At-loop Inv-loop μ-loop = search in
+    at-loop .loop .inv .1 .0
 
 same-length-2 : tie.Need-same-length-2 Inv-loop μ-loop
-same-length-2 c = c .before .loop .inv .1 .1 .0
+same-length-2 c =
+    let at-loop : tie.At-loop Inv-loop μ-loop = search in
+    at-loop .loop .inv .1 .1 .0
 
 returns : tie.Need-returns Inv-loop μ-loop
 returns c =
-    let i = c .before .loop .inv in
-    let d = left-done _ _ _ (c .before .loop .k) _ (c .loop-test .left) (i .1 .1 .1 .1) in
+    let at-loop : tie.At-loop Inv-loop μ-loop = search in
+    let i = at-loop .loop .inv in
+    let d = left-done _ _ _ (at-loop .loop .k) _ (c .loop-test .left) (i .1 .1 .1 .1) in
     (ap (λ (p : Pool). p .words) (d .0), (ap (λ (p : Pool). p .spot) (d .0), (d .1, i .1 .1 .1 .0)))
 
 pub extract-spec : {M : Type 1} → statement M

@@ -20,14 +20,18 @@ loop-holds c = (omega arith, (refl, refl))
 
 loop-again : tie.Need-loop-again Inv-loop μ-loop
 loop-again c =
-    let l = c .before .before .before .loop in
-    let a = c .before .before .before .before .before .args in
+    let at-loop : tie.At-loop Inv-loop μ-loop = search in
+    let start : tie.Start Inv-loop μ-loop = search in
+    let l = at-loop .loop in
+    let a = start .args in
     (omega arith, (simp length-set (l .inv .1 .0), message-suc (a .ws .now) (l .m) (a .k) (l .i) _ (omega arith) (l .inv .1 .0) (omega arith) (c .swap-bytes .ensures) (l .inv .1 .1)))
 
 returns : tie.Need-returns Inv-loop μ-loop
 returns c =
-    let l = c .before .loop in
-    let a = c .before .before .before .args in
+    let at-loop : tie.At-loop Inv-loop μ-loop = search in
+    let start : tie.Start Inv-loop μ-loop = search in
+    let l = at-loop .loop in
+    let a = start .args in
     message-all (a .ws .now) (l .m) (a .k) (l .i) (omega arith) (l .inv .1 .0) (l .inv .1 .1)
 
 pub message-spec : {M : Type 1} → statement M

@@ -8,8 +8,10 @@ mix-by-requires c κs = (refl, search needs)
 
 returns : tie.Need-returns
 returns c =
-    let m = c .before .before .mix-by .ensures in
-    (rw (c .before .before .before .before .before .before .hash-bytes .ensures) at (m .0), m .1)
+    let at-mix-by : tie.After-mix-by = search in
+    let at-hash-bytes : tie.After-hash-bytes = search in
+    let m = at-mix-by .mix-by .ensures in
+    (rw (at-hash-bytes .hash-bytes .ensures) at (m .0), m .1)
 
 pub mix-back-spec : {M : Type 1} → statement M
 mix-back-spec = tie.close (tie.spec (λ c κs. search needs) (λ c. search needs) (λ c. search needs) mix-by-requires (λ c. search needs) returns)

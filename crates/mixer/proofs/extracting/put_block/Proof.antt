@@ -20,15 +20,20 @@ loop-holds c = (omega arith, (refl, refl))
 
 loop-again : tie.Need-loop-again Inv-loop μ-loop
 loop-again c =
-    let l = c .before .loop in
-    let a = c .before .before .before .before .args in
-    let n = c .before .before .ten-of .ensures in
+    let at-loop : tie.At-loop Inv-loop μ-loop = search in
+    let at-ten-of : tie.After-ten-of Inv-loop μ-loop = search in
+    let start : tie.Start Inv-loop μ-loop = search in
+    let l = at-loop .loop in
+    let a = start .args in
+    let n = at-ten-of .ten-of .ensures in
     (omega arith, (simp length-set (l .inv .1 .0), rw (add-one, l .inv .1 .1) (sets-suc (a .out .now) (a .k) (a .t3) (l .i) (omega arith))))
 
 returns : tie.Need-returns Inv-loop μ-loop
 returns c =
-    let l = c .before .loop in
-    let t = c .before .before .ten-of in
+    let at-loop : tie.At-loop Inv-loop μ-loop = search in
+    let at-ten-of : tie.After-ten-of Inv-loop μ-loop = search in
+    let l = at-loop .loop in
+    let t = at-ten-of .ten-of in
     let e : l .i ≡ t .result = omega arith in
     (rw (← t .ensures, ← e) (l .inv .1 .1), rw (t .ensures))
 

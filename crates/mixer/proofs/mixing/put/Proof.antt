@@ -6,10 +6,15 @@ use Rattle.mixer.proofs.mixing.put.Tie as tie
 
 returns : tie.Need-returns
 returns c =
-    let r = c .before .before .before .before in
-    let a = r .before .before .around .ensures in
-    let p = r .before .before .before .before .before .before .pre in
-    put-byte _ _ _ _ _ _ _ _ _ (p .1 .0) (p .1 .1) (a .0) (c .turned .ensures .0) refl (r .rotate-left .ensures) (c .before .before .before .blend .ensures) (c .before .before .twist .ensures) (c .before .twist2 .ensures)
+    let at-twist2 : tie.After-twist2 = search in
+    let at-twist : tie.After-twist = search in
+    let at-blend : tie.After-blend = search in
+    let r : tie.After-rotate-left = search in
+    let at-around : tie.After-around = search in
+    let start : tie.Start = search in
+    let a = at-around .around .ensures in
+    let p = start .pre in
+    put-byte _ _ _ _ _ _ _ _ _ (p .1 .0) (p .1 .1) (a .0) (c .turned .ensures .0) refl (r .rotate-left .ensures) (at-blend .blend .ensures) (at-twist .twist .ensures) (at-twist2 .twist2 .ensures)
 
 pub put-spec : {M : Type 1} → statement M
 put-spec =
