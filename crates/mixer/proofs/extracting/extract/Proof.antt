@@ -1,4 +1,4 @@
--- `pool::extracting::extract` meets its contract: what is left to extract gives, after the bytes that are in the room, what the
+-- `extract` meets its contract: what is left to extract gives, after the bytes that are in the room, what the
 -- whole gives.
 use mathlib.Core.Path.{_≡_, refl, ap, _∙_}
 use Prim.Native.Nat.{_≤_, _-_}
@@ -28,67 +28,35 @@ loop-holds c = (omega arith, (refl, (refl, (search needs, left-start _ _ _))))
 
 hash-pool-requires : tie.Need-hash-pool-requires Inv-loop μ-loop
 hash-pool-requires c κs =
-    let at-loop : tie.At-loop Inv-loop μ-loop = search in
-    let i = at-loop .loop .inv in
-    rw (i .1 .0) (i .1 .1 .1 .0 .size)
+    let i : tie.At-loop Inv-loop μ-loop = search in
+    rw (i .loop .inv .1 .0) (i .loop .inv .1 .1 .1 .0 .size)
 
 mix-back-requires : tie.Need-mix-back-requires Inv-loop μ-loop
 mix-back-requires c κs =
-    let at-loop : tie.At-loop Inv-loop μ-loop = search in
-    let i = at-loop .loop .inv in
-    rw (i .1 .0) (i .1 .1 .1 .0)
-
-put-block-requires : tie.Need-put-block-requires Inv-loop μ-loop
-put-block-requires c κs =
-    let at-mix-back : tie.After-mix-back Inv-loop μ-loop = search in
-    let at-loop : tie.At-loop Inv-loop μ-loop = search in
-    at-loop .loop .inv .0
+    let i : tie.At-loop Inv-loop μ-loop = search in
+    rw (i .loop .inv .1 .0) (i .loop .inv .1 .1 .1 .0)
 
 loop-less : tie.Need-loop-less Inv-loop μ-loop
 loop-less c =
-    let at-put-block : tie.After-put-block Inv-loop μ-loop = search in
+    let p : tie.After-put-block Inv-loop μ-loop = search in
     let at-ws : tie.After-ws Inv-loop μ-loop = search in
     let t : tie.In-loop Inv-loop μ-loop = search in
-    let at-loop : tie.At-loop Inv-loop μ-loop = search in
-    let p = at-put-block .put-block in
-    let l = at-loop .loop in
-    omega (arith, p .kept .0, p .ensures .1, t .loop-test .taken)
+    let l : tie.At-loop Inv-loop μ-loop = search in
+    omega (arith, p .put-block .kept .0, p .put-block .ensures .1, t .loop-test .taken)
 
 loop-again : tie.Need-loop-again Inv-loop μ-loop
 loop-again c =
-    let at-put-block : tie.After-put-block Inv-loop μ-loop = search in
-    let at-folded : tie.After-folded Inv-loop μ-loop = search in
-    let at-mix-back : tie.After-mix-back Inv-loop μ-loop = search in
+    let b : tie.After-put-block Inv-loop μ-loop = search in
+    let f : tie.After-folded Inv-loop μ-loop = search in
+    let g : tie.After-mix-back Inv-loop μ-loop = search in
     let h : tie.After-hash-pool Inv-loop μ-loop = search in
     let t : tie.In-loop Inv-loop μ-loop = search in
-    let at-loop : tie.At-loop Inv-loop μ-loop = search in
-    let p = at-put-block .put-block in
-    let f = at-folded .folded in
-    let m = at-mix-back .mix-back in
-    let l = at-loop .loop in
-    let i = l .inv in (
-      omega (arith, p .kept .0, p .ensures .1, i .0),
-      (
-        m .kept .0 ∙ i .1 .0,
-        (
-          p .kept .0 ∙ i .1 .1 .0,
-          (
-            rw (← i .1 .0) (m .ensures .1),
-            left-step _ (record { words = l .ws; spot = l .spot }) _ (l .out) _ _ _ (l .k) _ _ (i .1 .0) (t .loop-test .taken) (h .hash-pool .ensures) (f .ensures) (m .ensures .0) (p .ensures .0) (p .ensures .1) (i .1 .1 .1 .1),
-          ),
-        ),
-      ),
-    )
-
-same-length : tie.Need-same-length Inv-loop μ-loop
-same-length c =
-    let at-loop : tie.At-loop Inv-loop μ-loop = search in
-    at-loop .loop .inv .1 .0
-
-same-length-2 : tie.Need-same-length-2 Inv-loop μ-loop
-same-length-2 c =
-    let at-loop : tie.At-loop Inv-loop μ-loop = search in
-    at-loop .loop .inv .1 .1 .0
+    let l : tie.At-loop Inv-loop μ-loop = search in
+    let p = b .put-block in
+    let m = g .mix-back in
+    let i = l .loop .inv in
+    let more = left-step _ (record { words = l .loop .ws; spot = l .loop .spot }) _ (l .loop .out) _ _ _ (l .loop .k) _ _ (i .1 .0) (t .loop-test .taken) (h .hash-pool .ensures) (f .folded .ensures) (m .ensures .0) (p .ensures .0) (p .ensures .1) (i .1 .1 .1 .1) in
+    (omega (arith, p .kept .0, p .ensures .1, i .0), (m .kept .0 ∙ i .1 .0, (p .kept .0 ∙ i .1 .1 .0, (rw (← i .1 .0) (m .ensures .1), more))))
 
 returns : tie.Need-returns Inv-loop μ-loop
 returns c =
@@ -100,5 +68,5 @@ returns c =
 pub extract-spec : {M : Type 1} → statement M
 extract-spec =
     tie.close
-    (tie.spec Inv-loop μ-loop loop-holds hash-pool-requires mix-back-requires (λ c κs. search needs) put-block-requires loop-less loop-again
-    same-length same-length-2 returns)
+    (tie.spec Inv-loop μ-loop loop-holds hash-pool-requires mix-back-requires (λ c κs. search needs) (λ c κs. search) loop-less loop-again (λ c. search)
+    (λ c. search) returns)

@@ -24,10 +24,9 @@ loop-holds c = (search needs, refl, refl)
 loop-again : tie.Need-loop-again Inv-loop μ-loop
 loop-again c =
     let p : tie.After-put-u32 Inv-loop μ-loop = search in
-    let loop : tie.At-loop Inv-loop μ-loop = search in
+    let l : tie.At-loop Inv-loop μ-loop = search in
     let start : tie.Start Inv-loop μ-loop = search in
-    let l = loop .loop in
-    (search needs, search needs, rw (add-one, p .put-u32 .ensures, l .inv .2) (sets-word _ (start .args .t1) (l .i) (omega arith)))
+    (search needs, search needs, rw (add-one, p .put-u32 .ensures, l .loop .inv .2) (sets-word _ (start .args .t1) (l .loop .i) (omega arith)))
 
 returns : tie.Need-returns Inv-loop μ-loop
 returns c =

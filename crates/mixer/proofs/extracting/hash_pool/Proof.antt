@@ -35,11 +35,10 @@ loop-again : tie.Need-loop-again Inv-loop μ-loop
 loop-again c =
     let at-message : tie.After-message Inv-loop μ-loop = search in
     let t : tie.In-loop Inv-loop μ-loop = search in
-    let at-loop : tie.At-loop Inv-loop μ-loop = search in
+    let l : tie.At-loop Inv-loop μ-loop = search in
     let start : tie.Start Inv-loop μ-loop = search in
-    let l = at-loop .loop in
     let b = in-blocks _ (start .pre) in
-    (omega arith, (omega arith, hash-more _ _ _ _ _ (t .loop-test .taken) b (l .inv .1 .0) (rw (at-message .message .ensures) at (c .compress .ensures)) (l .inv .1 .1)))
+    (omega arith, (omega arith, hash-more _ _ _ _ _ (t .loop-test .taken) b (l .loop .inv .1 .0) (rw (at-message .message .ensures) at (c .compress .ensures)) (l .loop .inv .1 .1)))
 
 returns : tie.Need-returns Inv-loop μ-loop
 returns c =

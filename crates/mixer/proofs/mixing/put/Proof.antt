@@ -10,11 +10,9 @@ returns c =
     let at-twist : tie.After-twist = search in
     let at-blend : tie.After-blend = search in
     let r : tie.After-rotate-left = search in
-    let at-around : tie.After-around = search in
-    let start : tie.Start = search in
-    let a = at-around .around .ensures in
-    let p = start .pre in
-    put-byte _ _ _ _ _ _ _ _ _ (p .1 .0) (p .1 .1) (a .0) (c .turned .ensures .0) refl (r .rotate-left .ensures) (at-blend .blend .ensures) (at-twist .twist .ensures) (at-twist2 .twist2 .ensures)
+    let a : tie.After-around = search in
+    let p : tie.Start = search in
+    put-byte _ _ _ _ _ _ _ _ _ (p .pre .1 .0) (p .pre .1 .1) (a .around .ensures .0) (c .turned .ensures .0) refl (r .rotate-left .ensures) (at-blend .blend .ensures) (at-twist .twist .ensures) (at-twist2 .twist2 .ensures)
 
 pub put-spec : {M : Type 1} → statement M
 put-spec =
