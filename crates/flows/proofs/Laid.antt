@@ -1,16 +1,17 @@
 -- The bytes that go into a pool, written out as the code lays them.
 use mathlib.Core.Path.{_≡_, refl, sym, ap, _∙_}
 use mathlib.Core.List.{List, [], _∷_, _++_, append-assoc, append-nil}
-use Prim.Native.Nat.{ℕ, zero, suc, _*_, _/_, _%_, _^_, _<_}
+use Prim.Native.Nat.{ℕ, zero, suc, _*_, _/_, _%_, _^_, _≤_, _<_}
 use native.Mathlib.Omega.{arith}
 use lib.Arith.{digits-div, digits-mod, mod-mul}
 use lib.ListN.{length, take}
 use lib.Pow.{pow-pos}
-use lib.Seq.{take-at}
+use lib.Seq.{length-take-le, take-at}
 use Rattle.words.specs.Bytes.{leBytes, wordsBytes, bytesWords}
 use Rattle.ledger.specs.Shapes.{Shape}
 use Rattle.pool.specs.Mixing.{Pool}
 use Rattle.pool.specs.Extracting.{Extract, extractBlocks, extract}
+use Rattle.pool.proofs.Extracted.{laws}
 use Rattle.keeper.specs.Generator.{xorAt, ontoKey}
 use Rattle.keeper.specs.Calls.{eventBytes}
 
@@ -44,9 +45,15 @@ unfolding wordsBytes
 event-words stamp now value =
     rw (low-bytes 4 stamp, append-nil (leBytes 4 value), ← append-assoc (leBytes 4 stamp) (leBytes 4 (stamp / 2 ^ 32)) (leBytes 4 now ++ leBytes 4 value), halves stamp)
 
--- ---- the front of a room, after n bytes were laid there
-pub front-length : (n : ℕ) (bs rest : List ℕ) → length bs ≡ n → n ≡ length (take n (bs ++ rest))
-front-length n bs rest h = sym (ap length (take-at bs rest n h) ∙ h)
+-- ---- the front of a room, after n bytes were extracted into it
+module _ (sh : Shape) (p : Pool) (n : ℕ) (room bs : List ℕ) (fits : n ≤ length room) (e : bs ≡ (extract sh (length (take n room)) p) .bytes) where
+  pub front-bytes : (rest : List ℕ) → take n (bs ++ rest) ≡ (extract sh n p) .bytes
+  front-bytes rest =
+      let b = rw (length-take-le n room fits) at e in
+      take-at bs rest n (ap length b ∙ (laws sh) .take-length n p) ∙ b
+
+  pub front-length : (rest : List ℕ) → n ≡ length (take n (bs ++ rest))
+  front-length rest = sym (ap length (front-bytes rest) ∙ (laws sh) .take-length n p)
 
 -- ---- a reseed that takes nothing
 pub none-out : (sh : Shape) (t : ℕ) (q : Pool) → t ≡ 0 → _≡_ {A = Extract} (record { bytes = []; pool = q; runs = 0 }) (extract sh t q)

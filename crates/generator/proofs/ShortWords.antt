@@ -1,12 +1,12 @@
 -- Bytes read as words, of which the last may be short, and words xored on one at a time.
 use mathlib.Core.Path.{_≡_, refl, sym, ap, _∙_}
 use mathlib.Core.List.{List, [], _∷_}
-use Prim.Native.Nat.{ℕ, suc, _+_, _-_, _*_, _<_, _≤_}
+use Prim.Native.Nat.{ℕ, suc, _+_, _*_, _<_, _≤_}
 use native.Mathlib.Nat.{add-zero}
 use native.Mathlib.Omega.{arith}
 use lib.Bits.{bitXor}
 use lib.ListN.{length, getD, set, take, drop, length-drop, drop-of-length-le}
-use lib.Seq.{getD-drop, drop-drop, drop-cons}
+use lib.Seq.{getD-drop, drop-drop}
 use Rattle.words.specs.Bytes.{leNumber, bytesWords}
 use Rattle.keeper.specs.Generator.{xorAt}
 

@@ -1,13 +1,13 @@
 -- What the proofs of extracting cite: a block of the message, the hash of a pool, hashes as bytes, one block more in the room.
-use mathlib.Core.Path.{_≡_, refl, sym, ap, _∙_}
+use mathlib.Core.Path.{_≡_, sym, ap, _∙_}
 use mathlib.Core.Logic.{_⊎_, ⊎-elim}
 use mathlib.Core.List.{List, [], _∷_, _++_, map, map-append, append-assoc, append-nil}
 use Prim.Native.Nat.{ℕ, zero, suc, _+_, _-_, _/_, _%_, _≤_, _<_, min}
 use native.Mathlib.Numerals.{add-one}
 use native.Mathlib.Omega.{arith}
 use lib.Bits.{bitXor}
-use lib.ListN.{length, getD, set, take, drop, drop-of-length-le, length-append, length-drop}
-use lib.Seq.{sets, length-sets, sets-eq, take-all, take-nil, take-at, take-suc, take-suc-set, drop-cons, drop-drop, getD-drop, length-take-le}
+use lib.ListN.{length, getD, set, take, drop, length-append, length-drop}
+use lib.Seq.{sets, length-sets, sets-eq, take-all, take-nil, take-at, take-suc, take-suc-set, drop-drop, getD-drop, length-take-le}
 use Rattle.words.specs.Words.{rotl}
 use Rattle.words.specs.Bytes.{leBytes, swapped, wordsBytes}
 use Rattle.sha1.specs.Sha1.{initialHash, compressed}

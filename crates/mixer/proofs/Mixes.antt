@@ -120,3 +120,16 @@ mixed-then start s xs ys all ws vs p q e f g =
       as-many = g .as-many ∙ f .as-many;
       pool = rw (← e, mix-append (shapeOf (length start)) (record { words = start; spot = s }) xs ys, ← f .pool) (rw (f .as-many) at (g .pool));
     }
+
+-- the taps stay those of the pool
+pub taps-on : {start bytes ws : List ℕ} {s : Spot} {p : Place} {t : Taps} → TapsOf (length start) t → Mixed start s bytes ws p → TapsOf (length ws) t
+taps-on ts m = rw (m .as-many) ts
+
+-- the position stays small
+pub at-few : {start bytes ws : List ℕ} {s : Spot} {p : Place} → Mixed start s bytes ws p → p .at < 128
+at-few m = omega (arith, m .stands .inside .place, m .stands .inside .size .few)
+
+-- all are mixed in: what a function that began at the spot q and answers r then promises
+pub mixed-all : {start bytes all ws : List ℕ} {s q r : Spot} {p : Place} → bytes ≡ all → s ≡ q → r ≡ spotOf p → Mixed start s bytes ws p
+    → (_≡_ {A = Pool} (record { words = ws; spot = r }) (mix (shapeOf (length start)) (record { words = start; spot = q }) all)) × InPool (length start) r
+mixed-all eb es er m = (rw (er, ← es, ← eb) (m .pool), rw (er, ← m .as-many) (m .stands .inside))

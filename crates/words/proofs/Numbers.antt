@@ -1,13 +1,13 @@
 -- Laws of numbers laid out as bytes: lengths, the way there and back, runs of bytes and of words.
 use mathlib.Core.Path.{_≡_, refl, sym, ap, _∙_}
 use mathlib.Core.List.{List, [], _∷_, _++_, append-assoc, append-nil}
-use Prim.Native.Nat.{ℕ, zero, suc, _+_, _-_, _*_, _/_, _%_, _^_, _<_, _≤_}
-use native.Mathlib.Nat.{add-zero, mul-assoc}
+use Prim.Native.Nat.{ℕ, zero, suc, _+_, _*_, _/_, _%_, _^_, _<_, _≤_}
+use native.Mathlib.Nat.{mul-assoc}
 use native.Mathlib.Omega.{arith}
 use lib.ListN.{length, getD, take, drop, length-append}
 use lib.Pow.{pow-add, shr-lt}
 use lib.Seq.{take-suc, drop-cons, drop-length}
-use Rattle.words.specs.Bytes.{leBytes, leNumber, swapped, wordsBytes, bytesWords}
+use Rattle.words.specs.Bytes.{leBytes, leNumber, wordsBytes, bytesWords}
 
 pub length-leBytes : (n x : ℕ) → length (leBytes n x) ≡ n
 unfolding leBytes

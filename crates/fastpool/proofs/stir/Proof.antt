@@ -9,36 +9,6 @@ use borrow.Author.Needs.{needs}
 use Rattle.fastpool.proofs.stir.Statement.{statement}
 use Rattle.fastpool.proofs.stir.Tie as tie
 
-array-read-t13 : tie.Need-array-read-t13
-array-read-t13 c = search needs
-
-low-requires : tie.Need-low-requires
-low-requires c κs = search needs
-
-array-read-t19 : tie.Need-array-read-t19
-array-read-t19 c = search needs
-
-high-requires : tie.Need-high-requires
-high-requires c κs = search needs
-
-array-read-t25 : tie.Need-array-read-t25
-array-read-t25 c = search needs
-
-low-requires-2 : tie.Need-low-requires-2
-low-requires-2 c κs = search needs
-
-array-read-t30 : tie.Need-array-read-t30
-array-read-t30 c = search needs
-
-high-requires-2 : tie.Need-high-requires-2
-high-requires-2 c κs = search needs
-
-fast-round-requires : tie.Need-fast-round-requires
-fast-round-requires c κs = search needs
-
-fast-round-requires-2 : tie.Need-fast-round-requires-2
-fast-round-requires-2 c κs = search needs
-
 -- a function done twice over, from a start that is known
 twice : (f : List ℕ → List ℕ) (x x′ y z : List ℕ) → x ≡ x′ → y ≡ f x → z ≡ f y → z ≡ f (f x′)
 twice f x x′ y z e p q = rw (q, p, e)
@@ -68,15 +38,5 @@ returns c =
 pub stir-spec : {M : Type 1} → statement M
 stir-spec =
     tie.close
-    (tie.spec
-    array-read-t13
-    low-requires
-    array-read-t19
-    high-requires
-    array-read-t25
-    low-requires-2
-    array-read-t30
-    high-requires-2
-    fast-round-requires
-    fast-round-requires-2
-    returns)
+    (tie.spec (λ c. search needs) (λ c κs. search needs) (λ c. search needs) (λ c κs. search needs) (λ c. search needs) (λ c κs. search needs)
+    (λ c. search needs) (λ c κs. search needs) (λ c κs. search needs) (λ c κs. search needs) returns)

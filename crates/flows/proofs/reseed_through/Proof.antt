@@ -1,76 +1,43 @@
-use mathlib.Core.Path.{_≡_, sym, ap, _∙_}
+use mathlib.Core.Path.{sym}
 use native.Mathlib.Omega.{arith}
-use lib.ListN.{length, take, drop}
-use lib.Seq.{length-take-le, take-at}
-use Rattle.pool.proofs.Extracted.{extract-length}
-use Rattle.flows.proofs.Laid.{front-length}
+use lib.ListN.{drop}
+use lib.Seq.{length-take-le}
+use Rattle.flows.proofs.Laid.{front-bytes, front-length}
 use borrow.Author.Needs.{needs}
 use Rattle.flows.proofs.reseed_through.Statement.{statement}
 use Rattle.flows.proofs.reseed_through.Tie as tie
 
-slice-relend-prefix-extract : tie.Need-slice-relend-prefix-extract
-slice-relend-prefix-extract c = search needs
-
 slice-aggregate-extract : tie.Need-slice-aggregate-extract
 slice-aggregate-extract c =
-    let a = c .before .before .before .before .before .args in
-    sym (length-take-le (a .n) (a .room .now) (omega arith))
-
-extract-requires : tie.Need-extract-requires
-extract-requires c κs = search needs
-
-slice-reshare-prefix-onto-key : tie.Need-slice-reshare-prefix-onto-key
-slice-reshare-prefix-onto-key c = search needs
+    let start : tie.Start = search in
+    sym (length-take-le (start .args .n) (start .args .room .now) (omega arith))
 
 slice-aggregate-onto-key : tie.Need-slice-aggregate-onto-key
 slice-aggregate-onto-key c =
-    let a = c .before .before .before .before .before .before .before .before .before .before .before .before .args in
-    let e = c .before .before .before .before .before .before .extract .ensures in
-    let n = length-take-le (a .n) (a .room .now) (omega arith) in
-    let b = rw n at (e .1 .1 .0) in
-    let l = ap length b ∙ extract-length _ (a .n) _ in
-    front-length (a .n) (c .before .before .before .before .before .before .extract .last .1 .1 .0) (drop (a .n) (a .room .now)) l
+    let c : tie.After-extract = search in
+    let a : tie.Start = search in
+    front-length _ _ _ (a .args .room .now) _ (omega arith) (c .extract .ensures .1 .1 .0) _
 
 onto-key-requires : tie.Need-onto-key-requires
 onto-key-requires c κs =
-    let a = c .before .before .before .before .before .before .before .before .before .before .before .before .args in
-    let e = c .before .before .before .before .before .before .extract .ensures in
-    let n = length-take-le (a .n) (a .room .now) (omega arith) in
-    let b = rw n at (e .1 .1 .0) in
-    let l = ap length b ∙ extract-length _ (a .n) _ in
-    let f = front-length (a .n) (c .before .before .before .before .before .before .extract .last .1 .1 .0) (drop (a .n) (a .room .now)) l in
-    (search needs, omega (arith, f))
-
-same-length : tie.Need-same-length
-same-length c = search needs
-
-same-length-2 : tie.Need-same-length-2
-same-length-2 c = search needs
-
-same-length-3 : tie.Need-same-length-3
-same-length-3 c = search needs
+    let x : tie.After-extract = search in
+    let start : tie.Start = search in
+    let a = start .args in
+    (search needs, omega (arith, front-length _ _ (a .n) (a .room .now) _ (omega arith) (x .extract .ensures .1 .1 .0) (drop (a .n) (a .room .now))))
 
 returns : tie.Need-returns
 returns c =
-    let a = c .before .before .before .before .before .before .before .before .before .before .before .before .before .before .before .args in
-    let e = c .before .before .before .before .before .before .before .before .before .extract .ensures in
+    let c : tie.After-onto-key = search in
+    let k = c .onto-key .ensures in
+    let c : tie.After-extract = search in
+    let e = c .extract .ensures in
+    let start : tie.Start = search in
+    let a = start .args in
     let n = length-take-le (a .n) (a .room .now) (omega arith) in
-    let b = rw n at (e .1 .1 .0) in
-    let l = ap length b ∙ extract-length _ (a .n) _ in
-    let t = take-at _ (drop (a .n) (a .room .now)) (a .n) l ∙ b in
-    (rw n at (e .0), (rw n at (e .1 .0), rw t at (c .before .before .onto-key .ensures)))
+    (rw n at (e .0), (rw n at (e .1 .0), rw (front-bytes _ _ (a .n) (a .room .now) _ (omega arith) (e .1 .1 .0) _) at k))
 
 pub reseed-through-spec : {M : Type 1} → statement M
 reseed-through-spec =
     tie.close
-    (tie.spec
-    slice-relend-prefix-extract
-    slice-aggregate-extract
-    extract-requires
-    slice-reshare-prefix-onto-key
-    slice-aggregate-onto-key
-    onto-key-requires
-    same-length
-    same-length-2
-    same-length-3
-    returns)
+    (tie.spec (λ c. search needs) slice-aggregate-extract (λ c κs. search needs) (λ c. search needs) slice-aggregate-onto-key onto-key-requires
+    (λ c. search needs) (λ c. search needs) (λ c. search needs) returns)

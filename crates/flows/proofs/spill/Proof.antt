@@ -5,12 +5,6 @@ use borrow.Author.Needs.{needs}
 use Rattle.flows.proofs.spill.Statement.{statement}
 use Rattle.flows.proofs.spill.Tie as tie
 
-mix-words-requires : tie.Need-mix-words-requires
-mix-words-requires c κs = search needs
-
-same-length : tie.Need-same-length
-same-length c = search needs
-
 returns : tie.Need-returns
 unfolding pick
 returns c = rw (c .before .before .before .before .if1 .taken) (c .before .before .mix-words .ensures)
@@ -20,4 +14,4 @@ unfolding pick mix
 returns-2 c = rw (c .if1 .left) (refl, search needs)
 
 pub spill-spec : {M : Type 1} → statement M
-spill-spec = tie.close (tie.spec mix-words-requires same-length returns returns-2)
+spill-spec = tie.close (tie.spec (λ c κs. search needs) (λ c. search needs) returns returns-2)

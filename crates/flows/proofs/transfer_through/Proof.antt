@@ -1,70 +1,35 @@
-use mathlib.Core.Path.{_≡_, refl, sym, ap, _∙_}
+use mathlib.Core.Path.{sym}
 use native.Mathlib.Omega.{arith}
-use lib.ListN.{length, take, drop}
-use lib.Seq.{length-take-le, take-at}
-use Rattle.flows.proofs.Laid.{front-length}
-use Rattle.pool.proofs.Extracted.{extract-length}
+use lib.Seq.{length-take-le}
+use Rattle.flows.proofs.Laid.{front-bytes, front-length}
 use borrow.Author.Needs.{needs}
 use Rattle.flows.proofs.transfer_through.Statement.{statement}
 use Rattle.flows.proofs.transfer_through.Tie as tie
 
-slice-relend-prefix-extract : tie.Need-slice-relend-prefix-extract
-slice-relend-prefix-extract c = search needs
-
 slice-aggregate-extract : tie.Need-slice-aggregate-extract
 slice-aggregate-extract c =
-    let a = c .before .before .before .before .before .args in
-    sym (length-take-le (a .n) (a .room .now) (omega arith))
-
-extract-requires : tie.Need-extract-requires
-extract-requires c κs = search needs
-
-slice-reshare-prefix-mix : tie.Need-slice-reshare-prefix-mix
-slice-reshare-prefix-mix c = search needs
+    let start : tie.Start = search in
+    sym (length-take-le (start .args .n) (start .args .room .now) (omega arith))
 
 slice-aggregate-mix : tie.Need-slice-aggregate-mix
 slice-aggregate-mix c =
-    let a = c .before .before .before .before .before .before .before .before .before .before .before .before .args in
-    let e = c .before .before .before .before .before .before .extract .ensures in
-    let n = length-take-le (a .n) (a .room .now) (omega arith) in
-    let b = rw n at (e .1 .1 .0) in
-    let l = ap length b ∙ extract-length _ (a .n) _ in
-    front-length (a .n) (c .before .before .before .before .before .before .extract .last .1 .1 .0) (drop (a .n) (a .room .now)) l
-
-mix-requires : tie.Need-mix-requires
-mix-requires c κs = search needs
-
-same-length : tie.Need-same-length
-same-length c = search needs
-
-same-length-2 : tie.Need-same-length-2
-same-length-2 c = search needs
-
-same-length-3 : tie.Need-same-length-3
-same-length-3 c = search needs
+    let c : tie.After-extract = search in
+    let a : tie.Start = search in
+    front-length _ _ _ (a .args .room .now) _ (omega arith) (c .extract .ensures .1 .1 .0) _
 
 returns : tie.Need-returns
 returns c =
-    let a = c .before .before .before .before .before .before .before .before .before .before .before .before .before .before .before .args in
-    let e = c .before .before .before .before .before .before .before .before .before .extract .ensures in
-    let m = c .before .before .mix .ensures in
+    let c : tie.After-mix = search in
+    let m = c .mix .ensures in
+    let c : tie.After-extract = search in
+    let e = c .extract .ensures in
+    let start : tie.Start = search in
+    let a = start .args in
     let n = length-take-le (a .n) (a .room .now) (omega arith) in
-    let b = rw n at (e .1 .1 .0) in
-    let l = ap length b ∙ extract-length _ (a .n) _ in
-    let t = take-at _ (drop (a .n) (a .room .now)) (a .n) l ∙ b in
-    (rw n at (e .0), (rw n at (e .1 .0), (rw t at (m .0), m .1)))
+    (rw n at (e .0), (rw n at (e .1 .0), (rw (front-bytes _ _ (a .n) (a .room .now) _ (omega arith) (e .1 .1 .0) _) at (m .0), m .1)))
 
 pub transfer-through-spec : {M : Type 1} → statement M
 transfer-through-spec =
     tie.close
-    (tie.spec
-    slice-relend-prefix-extract
-    slice-aggregate-extract
-    extract-requires
-    slice-reshare-prefix-mix
-    slice-aggregate-mix
-    mix-requires
-    same-length
-    same-length-2
-    same-length-3
-    returns)
+    (tie.spec (λ c. search needs) slice-aggregate-extract (λ c κs. search needs) (λ c. search needs) slice-aggregate-mix (λ c κs. search needs)
+    (λ c. search needs) (λ c. search needs) (λ c. search needs) returns)

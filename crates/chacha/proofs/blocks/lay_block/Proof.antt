@@ -11,25 +11,10 @@ use borrow.Author.Needs.{needs}
 use Rattle.chacha.proofs.blocks.lay_block.Statement.{statement}
 use Rattle.chacha.proofs.blocks.lay_block.Tie as tie
 
-rounds-requires : tie.Need-rounds-requires
-rounds-requires c κs = search needs
-
-slice-relend-prefix-lay-sums : tie.Need-slice-relend-prefix-lay-sums
-slice-relend-prefix-lay-sums c = search needs
-
 slice-aggregate-lay-sums : tie.Need-slice-aggregate-lay-sums
 slice-aggregate-lay-sums c =
     let s : tie.Start = search in
     sym (length-take-le 64 (s .args .out .now) (omega arith))
-
-lay-sums-requires : tie.Need-lay-sums-requires
-lay-sums-requires c κs = search needs
-
-lay-sums-requires-2 : tie.Need-lay-sums-requires-2
-lay-sums-requires-2 c κs = search needs
-
-same-length : tie.Need-same-length
-same-length c = search needs
 
 returns : tie.Need-returns
 unfolding chachaBlock
@@ -41,9 +26,6 @@ returns c =
     let fits : 0 + length (serialize b) ≤ 64 = omega (arith, length-wordsBytes b, length-block-same (s .args .s .now)) in
     (rw (l .lay-sums .ensures, t .rounds .ensures) (sets-front 64 (s .args .out .now) 0 (serialize b) fits), search needs)
 
-same-length-2 : tie.Need-same-length-2
-same-length-2 c = search needs
-
 returns-2 : tie.Need-returns-2
 unfolding chachaBlock
 returns-2 c =
@@ -54,13 +36,5 @@ returns-2 c =
 pub lay-block-spec : {M : Type 1} → statement M
 lay-block-spec =
     tie.close
-    (tie.spec
-    rounds-requires
-    slice-relend-prefix-lay-sums
-    slice-aggregate-lay-sums
-    lay-sums-requires
-    lay-sums-requires-2
-    same-length
-    returns
-    same-length-2
-    returns-2)
+    (tie.spec (λ c κs. search needs) (λ c. search needs) slice-aggregate-lay-sums (λ c κs. search needs) (λ c κs. search needs) (λ c. search needs)
+    returns (λ c. search needs) returns-2)

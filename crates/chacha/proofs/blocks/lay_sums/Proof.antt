@@ -22,33 +22,6 @@ loop-holds : tie.Need-loop-holds Inv-loop μ-loop
 unfolding wordsBytes
 loop-holds c = (search needs, refl, refl)
 
-mul-put-u32 : tie.Need-mul-put-u32 Inv-loop μ-loop
-mul-put-u32 c = search needs
-
-mul-wrapping-add-u32 : tie.Need-mul-wrapping-add-u32 Inv-loop μ-loop
-mul-wrapping-add-u32 c = search needs
-
-array-read-wrapping-add-u32 : tie.Need-array-read-wrapping-add-u32 Inv-loop μ-loop
-array-read-wrapping-add-u32 c = search needs
-
-mul-wrapping-add-u32-2 : tie.Need-mul-wrapping-add-u32-2 Inv-loop μ-loop
-mul-wrapping-add-u32-2 c = search needs
-
-shared-slice-read-wrapping-add-u32 : tie.Need-shared-slice-read-wrapping-add-u32 Inv-loop μ-loop
-shared-slice-read-wrapping-add-u32 c = search needs
-
-wrapping-add-u32-requires : tie.Need-wrapping-add-u32-requires Inv-loop μ-loop
-wrapping-add-u32-requires c κs = search needs
-
-put-u32-requires : tie.Need-put-u32-requires Inv-loop μ-loop
-put-u32-requires c κs = search needs
-
-add-k : tie.Need-add-k Inv-loop μ-loop
-add-k c = search needs
-
-loop-less : tie.Need-loop-less Inv-loop μ-loop
-loop-less c = search needs
-
 loop-again : tie.Need-loop-again Inv-loop μ-loop
 loop-again c =
     let p : tie.After-put-u32 Inv-loop μ-loop = search in
@@ -62,9 +35,6 @@ loop-again c =
     let e = getD-zipWith add (l .k) (a .t1) (a .s .now) (omega arith) (omega arith) in
     (search needs, search needs, rw (add-one, p .put-u32 .ensures, l .inv .2, x .wrapping-add-u32 .ensures, ← e) (sets-word (a .out .now) (addWords (a .t1) (a .s .now)) (l .k) n))
 
-same-length : tie.Need-same-length Inv-loop μ-loop
-same-length c = search needs
-
 returns : tie.Need-returns Inv-loop μ-loop
 returns c =
     let start : tie.Start Inv-loop μ-loop = search in
@@ -77,19 +47,5 @@ returns c =
 pub lay-sums-spec : {M : Type 1} → statement M
 lay-sums-spec =
     tie.close
-    (tie.spec
-    Inv-loop
-    μ-loop
-    loop-holds
-    mul-put-u32
-    mul-wrapping-add-u32
-    array-read-wrapping-add-u32
-    mul-wrapping-add-u32-2
-    shared-slice-read-wrapping-add-u32
-    wrapping-add-u32-requires
-    put-u32-requires
-    add-k
-    loop-less
-    loop-again
-    same-length
-    returns)
+    (tie.spec Inv-loop μ-loop loop-holds (λ c. search needs) (λ c. search needs) (λ c. search needs) (λ c. search needs) (λ c. search needs)
+    (λ c κs. search needs) (λ c κs. search needs) (λ c. search needs) (λ c. search needs) loop-again (λ c. search needs) returns)

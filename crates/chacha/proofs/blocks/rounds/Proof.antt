@@ -17,15 +17,6 @@ loop-holds : tie.Need-loop-holds Inv-loop μ-loop
 unfolding rounds
 loop-holds c = (search needs, refl)
 
-inner-block-requires : tie.Need-inner-block-requires Inv-loop μ-loop
-inner-block-requires c κs = search needs
-
-add-n : tie.Need-add-n Inv-loop μ-loop
-add-n c = search needs
-
-loop-less : tie.Need-loop-less Inv-loop μ-loop
-loop-less c = search needs
-
 loop-again : tie.Need-loop-again Inv-loop μ-loop
 unfolding rounds
 loop-again c = (search needs, rw add-one (c .inner-block .ensures ∙ ap innerBlock (c .before .before .loop .inv .1)))
@@ -37,6 +28,4 @@ returns c =
     rw (l .inv .1, e)
 
 pub rounds-spec : {M : Type 1} → statement M
-rounds-spec =
-    tie.close
-    (tie.spec Inv-loop μ-loop loop-holds inner-block-requires add-n loop-less loop-again returns)
+rounds-spec = tie.close (tie.spec Inv-loop μ-loop loop-holds (λ c κs. search needs) (λ c. search needs) (λ c. search needs) loop-again returns)

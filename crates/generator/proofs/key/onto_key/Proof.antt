@@ -18,51 +18,12 @@ Inv-loop g₀ bytes i₀ g i =
 abbrev μ-loop : tie.MeasureT-loop
 μ-loop g₀ bytes i₀ g i = length bytes + 3 - 4 * i
 
-loop-holds : tie.Need-loop-holds Inv-loop μ-loop
-loop-holds c = search needs
-
-mul-loop : tie.Need-mul-loop Inv-loop μ-loop
-mul-loop c = search needs
-
-add-g : tie.Need-add-g Inv-loop μ-loop
-add-g c = search needs
-
-mul-g : tie.Need-mul-g Inv-loop μ-loop
-mul-g c = search needs
-
-slice-read-g : tie.Need-slice-read-g Inv-loop μ-loop
-slice-read-g c = search needs
-
-mul-word-at : tie.Need-mul-word-at Inv-loop μ-loop
-mul-word-at c = search needs
-
-word-at-requires : tie.Need-word-at-requires Inv-loop μ-loop
-word-at-requires c κs = search needs
-
-add-g-2 : tie.Need-add-g-2 Inv-loop μ-loop
-add-g-2 c = search needs
-
-mul-g-2 : tie.Need-mul-g-2 Inv-loop μ-loop
-mul-g-2 c = search needs
-
-slice-write-g : tie.Need-slice-write-g Inv-loop μ-loop
-slice-write-g c = search needs
-
-add-i : tie.Need-add-i Inv-loop μ-loop
-add-i c = search needs
-
-loop-less : tie.Need-loop-less Inv-loop μ-loop
-loop-less c = search needs
-
 loop-again : tie.Need-loop-again Inv-loop μ-loop
 loop-again c =
     let t = c .before .before in
     let l = t .before .loop in
     let a = t .before .before .before .before .args in
     (simp length-set (l .inv .0), (omega arith, xor-bytes (l .g) (a .bytes .now) _ (l .i) _ (omega arith) (c .word-at .ensures) (l .inv .1 .1)))
-
-same-length : tie.Need-same-length Inv-loop μ-loop
-same-length c = search needs
 
 returns : tie.Need-returns Inv-loop μ-loop
 returns c =
@@ -73,21 +34,6 @@ returns c =
 pub onto-key-spec : {M : Type 1} → statement M
 onto-key-spec =
     tie.close
-    (tie.spec
-    Inv-loop
-    μ-loop
-    loop-holds
-    mul-loop
-    add-g
-    mul-g
-    slice-read-g
-    mul-word-at
-    word-at-requires
-    add-g-2
-    mul-g-2
-    slice-write-g
-    add-i
-    loop-less
-    loop-again
-    same-length
-    returns)
+    (tie.spec Inv-loop μ-loop (λ c. search needs) (λ c. search needs) (λ c. search needs) (λ c. search needs) (λ c. search needs) (λ c. search needs)
+    (λ c κs. search needs) (λ c. search needs) (λ c. search needs) (λ c. search needs) (λ c. search needs) (λ c. search needs) loop-again
+    (λ c. search needs) returns)

@@ -4,9 +4,6 @@ use borrow.Author.Needs.{needs}
 use Rattle.generator.proofs.reading.carried.Statement.{statement}
 use Rattle.generator.proofs.reading.carried.Tie as tie
 
-wrapping-add-u32-requires : tie.Need-wrapping-add-u32-requires
-wrapping-add-u32-requires c κs = search needs
-
 returns : tie.Need-returns
 unfolding pick
 returns c = rw (eq-eqb _ 0 (c .before .if1 .taken)) (c .wrapping-add-u32 .ensures)
@@ -16,4 +13,4 @@ unfolding pick
 returns-2 c = rw (ne-eqb _ 0 (c .if1 .left))
 
 pub carried-spec : {M : Type 1} → statement M
-carried-spec = tie.close (tie.spec wrapping-add-u32-requires returns returns-2)
+carried-spec = tie.close (tie.spec (λ c κs. search needs) returns returns-2)

@@ -17,54 +17,12 @@ abbrev μ-loop : tie.MeasureT-loop
 loop-holds : tie.Need-loop-holds Inv-loop μ-loop
 loop-holds c = (search needs, refl, filled-none _ _)
 
-sub-loop : tie.Need-sub-loop Inv-loop μ-loop
-sub-loop c = search needs
-
-sub-next-block : tie.Need-sub-next-block Inv-loop μ-loop
-sub-next-block c = search needs
-
-part-next-block-start : tie.Need-part-next-block-start Inv-loop μ-loop
-part-next-block-start c = search needs
-
-part-next-block-end : tie.Need-part-next-block-end Inv-loop μ-loop
-part-next-block-end c = search needs
-
-next-block-requires : tie.Need-next-block-requires Inv-loop μ-loop
-next-block-requires c κs = search needs
-
-add-k : tie.Need-add-k Inv-loop μ-loop
-add-k c = search needs
-
-loop-less : tie.Need-loop-less Inv-loop μ-loop
-loop-less c = search needs
-
 loop-again : tie.Need-loop-again Inv-loop μ-loop
 loop-again c =
     let n : tie.After-next-block Inv-loop μ-loop = search in
     let loop : tie.At-loop Inv-loop μ-loop = search in
     let b = n .next-block .ensures in
     (omega arith, omega arith, filled-more _ _ _ _ _ _ _ (b .1 .1) (b .1 .0) (b .0) (loop .loop .inv .2))
-
-next-block-requires-2 : tie.Need-next-block-requires-2 Inv-loop μ-loop
-next-block-requires-2 c κs = search needs
-
-sub-lay-whole : tie.Need-sub-lay-whole Inv-loop μ-loop
-sub-lay-whole c = search needs
-
-part-lay-whole-start : tie.Need-part-lay-whole-start Inv-loop μ-loop
-part-lay-whole-start c = search needs
-
-part-lay-whole-end : tie.Need-part-lay-whole-end Inv-loop μ-loop
-part-lay-whole-end c = search needs
-
-lay-whole-requires : tie.Need-lay-whole-requires Inv-loop μ-loop
-lay-whole-requires c κs = search needs
-
-same-length : tie.Need-same-length Inv-loop μ-loop
-same-length c = search needs
-
-same-length-2 : tie.Need-same-length-2 Inv-loop μ-loop
-same-length-2 c = search needs
 
 returns : tie.Need-returns Inv-loop μ-loop
 returns c =
@@ -77,23 +35,6 @@ returns c =
 pub fill-spec : {M : Type 1} → statement M
 fill-spec =
     tie.close
-    (tie.spec
-    Inv-loop
-    μ-loop
-    loop-holds
-    sub-loop
-    sub-next-block
-    part-next-block-start
-    part-next-block-end
-    next-block-requires
-    add-k
-    loop-less
-    loop-again
-    next-block-requires-2
-    sub-lay-whole
-    part-lay-whole-start
-    part-lay-whole-end
-    lay-whole-requires
-    same-length
-    same-length-2
-    returns)
+    (tie.spec Inv-loop μ-loop loop-holds (λ c. search needs) (λ c. search needs) (λ c. search needs) (λ c. search needs) (λ c κs. search needs)
+    (λ c. search needs) (λ c. search needs) loop-again (λ c κs. search needs) (λ c. search needs) (λ c. search needs) (λ c. search needs)
+    (λ c κs. search needs) (λ c. search needs) (λ c. search needs) returns)

@@ -16,27 +16,6 @@ returns c =
     let a = c .before .before .args in
     read-none (a .out .now) (a .g .now) (c .if1 .taken)
 
-slice-aggregate-fill : tie.Need-slice-aggregate-fill
-slice-aggregate-fill c = search needs
-
-fill-requires : tie.Need-fill-requires
-fill-requires c κs = search needs
-
-used-up-requires : tie.Need-used-up-requires
-used-up-requires c κs = search needs
-
-add-if2 : tie.Need-add-if2
-add-if2 c = search needs
-
-slice-aggregate-next-block : tie.Need-slice-aggregate-next-block
-slice-aggregate-next-block c = search needs
-
-next-block-requires : tie.Need-next-block-requires
-next-block-requires c κs = search needs
-
-array-share-prefix-last : tie.Need-array-share-prefix-last
-array-share-prefix-last c = search needs
-
 slice-aggregate-onto-key : tie.Need-slice-aggregate-onto-key
 slice-aggregate-onto-key c =
     let n : tie.After-next-block = search in
@@ -46,9 +25,6 @@ onto-key-requires : tie.Need-onto-key-requires
 onto-key-requires c κs =
     let n : tie.After-next-block = search in
     (c .before .onto-key-arg .given .0 .1, omega (arith, length-take-le 32 (n .next-block .last .1 .0) (omega arith)))
-
-same-length : tie.Need-same-length
-same-length c = search needs
 
 returns-2 : tie.Need-returns-2
 returns-2 c =
@@ -63,24 +39,6 @@ returns-2 c =
       f .fill .ensures .0 ∙ sym (read-bytes len (s .args .g .now) g16),
       read-further len (s .args .g .now) _ _ _ _ g16 (rw (u .used-up .ensures .0) at (t .if2 .taken)) (f .fill .ensures .1 .0) (whole-block _ _ _ (b .1 .1) (omega arith) (b .0)) (b .1 .0) (c .onto-key .ensures),
     )
-
-add-end : tie.Need-add-end
-add-end c = search needs
-
-sub-onto-key : tie.Need-sub-onto-key
-sub-onto-key c = search needs
-
-part-onto-key-start : tie.Need-part-onto-key-start
-part-onto-key-start c = search needs
-
-part-onto-key-end : tie.Need-part-onto-key-end
-part-onto-key-end c = search needs
-
-onto-key-requires-2 : tie.Need-onto-key-requires-2
-onto-key-requires-2 c κs = search needs
-
-same-length-2 : tie.Need-same-length-2
-same-length-2 c = search needs
 
 returns-3 : tie.Need-returns-3
 returns-3 c =
@@ -99,23 +57,6 @@ returns-3 c =
 pub generate-spec : {M : Type 1} → statement M
 generate-spec =
     tie.close
-    (tie.spec
-    returns
-    slice-aggregate-fill
-    fill-requires
-    used-up-requires
-    add-if2
-    slice-aggregate-next-block
-    next-block-requires
-    array-share-prefix-last
-    slice-aggregate-onto-key
-    onto-key-requires
-    same-length
-    returns-2
-    add-end
-    sub-onto-key
-    part-onto-key-start
-    part-onto-key-end
-    onto-key-requires-2
-    same-length-2
-    returns-3)
+    (tie.spec returns (λ c. search needs) (λ c κs. search needs) (λ c κs. search needs) (λ c. search needs) (λ c. search needs) (λ c κs. search needs)
+    (λ c. search needs) slice-aggregate-onto-key onto-key-requires (λ c. search needs) returns-2 (λ c. search needs) (λ c. search needs)
+    (λ c. search needs) (λ c. search needs) (λ c κs. search needs) (λ c. search needs) returns-3)

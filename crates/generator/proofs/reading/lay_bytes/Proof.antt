@@ -18,18 +18,6 @@ abbrev μ-loop : tie.MeasureT-loop
 loop-holds : tie.Need-loop-holds Inv-loop μ-loop
 loop-holds c = (search needs, refl, refl)
 
-shared-slice-read-put-at : tie.Need-shared-slice-read-put-at Inv-loop μ-loop
-shared-slice-read-put-at c = search needs
-
-put-at-requires : tie.Need-put-at-requires Inv-loop μ-loop
-put-at-requires c κs = search needs
-
-add-i : tie.Need-add-i Inv-loop μ-loop
-add-i c = search needs
-
-loop-less : tie.Need-loop-less Inv-loop μ-loop
-loop-less c = search needs
-
 loop-again : tie.Need-loop-again Inv-loop μ-loop
 loop-again c =
     let p : tie.After-put-at Inv-loop μ-loop = search in
@@ -39,9 +27,6 @@ loop-again c =
     let a = start .args in
     let z : 0 + l .i ≡ l .i = omega arith in
     (search needs, search needs, rw (add-one, p .put-at .ensures, l .inv .2) (rw z at (sets-suc (a .out .now) 0 (a .bytes .now) (l .i) (omega arith))))
-
-same-length : tie.Need-same-length Inv-loop μ-loop
-same-length c = search needs
 
 returns : tie.Need-returns Inv-loop μ-loop
 returns c =
@@ -54,14 +39,5 @@ returns c =
 pub lay-bytes-spec : {M : Type 1} → statement M
 lay-bytes-spec =
     tie.close
-    (tie.spec
-    Inv-loop
-    μ-loop
-    loop-holds
-    shared-slice-read-put-at
-    put-at-requires
-    add-i
-    loop-less
-    loop-again
-    same-length
-    returns)
+    (tie.spec Inv-loop μ-loop loop-holds (λ c. search needs) (λ c κs. search needs) (λ c. search needs) (λ c. search needs) loop-again
+    (λ c. search needs) returns)

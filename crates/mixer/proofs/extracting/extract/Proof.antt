@@ -1,4 +1,4 @@
--- `pool::extracting::extract` meets its contract: what is left to extract gives, after the bytes that are in the room, what the
+-- `extract` meets its contract: what is left to extract gives, after the bytes that are in the room, what the
 -- whole gives.
 use mathlib.Core.Path.{_≡_, refl, ap, _∙_}
 use Prim.Native.Nat.{_≤_, _-_}
@@ -28,74 +28,45 @@ loop-holds c = (omega arith, (refl, (refl, (search needs, left-start _ _ _))))
 
 hash-pool-requires : tie.Need-hash-pool-requires Inv-loop μ-loop
 hash-pool-requires c κs =
-    let i = c .before .before .loop .inv in
-    rw (i .1 .0) (i .1 .1 .1 .0 .size)
+    let i : tie.At-loop Inv-loop μ-loop = search in
+    rw (i .loop .inv .1 .0) (i .loop .inv .1 .1 .1 .0 .size)
 
 mix-back-requires : tie.Need-mix-back-requires Inv-loop μ-loop
 mix-back-requires c κs =
-    let i = c .before .before .before .before .loop .inv in
-    rw (i .1 .0) (i .1 .1 .1 .0)
-
-folded-requires : tie.Need-folded-requires Inv-loop μ-loop
-folded-requires c κs = search needs
-
-put-block-requires : tie.Need-put-block-requires Inv-loop μ-loop
-put-block-requires c κs = c .before .before .before .before .before .before .before .before .before .loop .inv .0
+    let i : tie.At-loop Inv-loop μ-loop = search in
+    rw (i .loop .inv .1 .0) (i .loop .inv .1 .1 .1 .0)
 
 loop-less : tie.Need-loop-less Inv-loop μ-loop
 loop-less c =
-    let p = c .before .before .put-block in
-    let t = c .before .before .before .before .before .before .before .before .before .before .before in
-    let l = t .before .loop in
-    omega (arith, p .kept .0, p .ensures .1, t .loop-test .taken)
+    let p : tie.After-put-block Inv-loop μ-loop = search in
+    let at-ws : tie.After-ws Inv-loop μ-loop = search in
+    let t : tie.In-loop Inv-loop μ-loop = search in
+    let l : tie.At-loop Inv-loop μ-loop = search in
+    omega (arith, p .put-block .kept .0, p .put-block .ensures .1, t .loop-test .taken)
 
 loop-again : tie.Need-loop-again Inv-loop μ-loop
 loop-again c =
-    let p = c .before .before .put-block in
-    let f = c .before .before .before .folded in
-    let m = c .before .before .before .before .before .before .before .mix-back in
-    let h = c .before .before .before .before .before .before .before .before .before in
-    let t = h .before .before in
-    let l = t .before .loop in
-    let i = l .inv in (
-      omega (arith, p .kept .0, p .ensures .1, i .0),
-      (
-        m .kept .0 ∙ i .1 .0,
-        (
-          p .kept .0 ∙ i .1 .1 .0,
-          (
-            rw (← i .1 .0) (m .ensures .1),
-            left-step _ (record { words = l .ws; spot = l .spot }) _ (l .out) _ _ _ (l .k) _ _ (i .1 .0) (t .loop-test .taken) (h .hash-pool .ensures) (f .ensures) (m .ensures .0) (p .ensures .0) (p .ensures .1) (i .1 .1 .1 .1),
-          ),
-        ),
-      ),
-    )
-
-same-length : tie.Need-same-length Inv-loop μ-loop
-same-length c = c .before .loop .inv .1 .0
-
-same-length-2 : tie.Need-same-length-2 Inv-loop μ-loop
-same-length-2 c = c .before .loop .inv .1 .1 .0
+    let b : tie.After-put-block Inv-loop μ-loop = search in
+    let f : tie.After-folded Inv-loop μ-loop = search in
+    let g : tie.After-mix-back Inv-loop μ-loop = search in
+    let h : tie.After-hash-pool Inv-loop μ-loop = search in
+    let t : tie.In-loop Inv-loop μ-loop = search in
+    let l : tie.At-loop Inv-loop μ-loop = search in
+    let p = b .put-block in
+    let m = g .mix-back in
+    let i = l .loop .inv in
+    let more = left-step _ (record { words = l .loop .ws; spot = l .loop .spot }) _ (l .loop .out) _ _ _ (l .loop .k) _ _ (i .1 .0) (t .loop-test .taken) (h .hash-pool .ensures) (f .folded .ensures) (m .ensures .0) (p .ensures .0) (p .ensures .1) (i .1 .1 .1 .1) in
+    (omega (arith, p .kept .0, p .ensures .1, i .0), (m .kept .0 ∙ i .1 .0, (p .kept .0 ∙ i .1 .1 .0, (rw (← i .1 .0) (m .ensures .1), more))))
 
 returns : tie.Need-returns Inv-loop μ-loop
 returns c =
-    let i = c .before .loop .inv in
-    let d = left-done _ _ _ (c .before .loop .k) _ (c .loop-test .left) (i .1 .1 .1 .1) in
+    let at-loop : tie.At-loop Inv-loop μ-loop = search in
+    let i = at-loop .loop .inv in
+    let d = left-done _ _ _ (at-loop .loop .k) _ (c .loop-test .left) (i .1 .1 .1 .1) in
     (ap (λ (p : Pool). p .words) (d .0), (ap (λ (p : Pool). p .spot) (d .0), (d .1, i .1 .1 .1 .0)))
 
 pub extract-spec : {M : Type 1} → statement M
 extract-spec =
     tie.close
-    (tie.spec
-    Inv-loop
-    μ-loop
-    loop-holds
-    hash-pool-requires
-    mix-back-requires
-    folded-requires
-    put-block-requires
-    loop-less
-    loop-again
-    same-length
-    same-length-2
-    returns)
+    (tie.spec Inv-loop μ-loop loop-holds hash-pool-requires mix-back-requires (λ c κs. search needs) (λ c κs. search) loop-less loop-again (λ c. search)
+    (λ c. search) returns)

@@ -21,34 +21,12 @@ loop-holds : tie.Need-loop-holds Inv-loop μ-loop
 unfolding wordsBytes
 loop-holds c = (search needs, refl, refl)
 
-slice-aggregate-put-u32 : tie.Need-slice-aggregate-put-u32 Inv-loop μ-loop
-slice-aggregate-put-u32 c = search needs
-
-mul-put-u32 : tie.Need-mul-put-u32 Inv-loop μ-loop
-mul-put-u32 c = search needs
-
-mul-put-u32-2 : tie.Need-mul-put-u32-2 Inv-loop μ-loop
-mul-put-u32-2 c = search needs
-
-array-read-put-u32 : tie.Need-array-read-put-u32 Inv-loop μ-loop
-array-read-put-u32 c = search needs
-
-put-u32-requires : tie.Need-put-u32-requires Inv-loop μ-loop
-put-u32-requires c κs = search needs
-
-add-i : tie.Need-add-i Inv-loop μ-loop
-add-i c = search needs
-
-loop-less : tie.Need-loop-less Inv-loop μ-loop
-loop-less c = search needs
-
 loop-again : tie.Need-loop-again Inv-loop μ-loop
 loop-again c =
     let p : tie.After-put-u32 Inv-loop μ-loop = search in
-    let loop : tie.At-loop Inv-loop μ-loop = search in
+    let l : tie.At-loop Inv-loop μ-loop = search in
     let start : tie.Start Inv-loop μ-loop = search in
-    let l = loop .loop in
-    (search needs, search needs, rw (add-one, p .put-u32 .ensures, l .inv .2) (sets-word _ (start .args .t1) (l .i) (omega arith)))
+    (search needs, search needs, rw (add-one, p .put-u32 .ensures, l .loop .inv .2) (sets-word _ (start .args .t1) (l .loop .i) (omega arith)))
 
 returns : tie.Need-returns Inv-loop μ-loop
 returns c =
@@ -61,16 +39,5 @@ returns c =
 pub hash-bytes-spec : {M : Type 1} → statement M
 hash-bytes-spec =
     tie.close
-    (tie.spec
-    Inv-loop
-    μ-loop
-    loop-holds
-    slice-aggregate-put-u32
-    mul-put-u32
-    mul-put-u32-2
-    array-read-put-u32
-    put-u32-requires
-    add-i
-    loop-less
-    loop-again
-    returns)
+    (tie.spec Inv-loop μ-loop loop-holds (λ c. search needs) (λ c. search needs) (λ c. search needs) (λ c. search needs) (λ c κs. search needs)
+    (λ c. search needs) (λ c. search needs) loop-again returns)

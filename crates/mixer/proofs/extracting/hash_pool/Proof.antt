@@ -20,47 +20,34 @@ Inv-loop ws h₀ k₀ h k =
 abbrev μ-loop : tie.MeasureT-loop
 μ-loop ws h₀ k₀ h k = length ws - k
 
-initial-hash-requires : tie.Need-initial-hash-requires Inv-loop μ-loop
-initial-hash-requires c κs = search needs
-
 loop-holds : tie.Need-loop-holds Inv-loop μ-loop
-loop-holds c = (omega arith, (refl, rw (c .initial-hash .ensures, hash-start _ (c .before .before .pre))))
+loop-holds c =
+    let start : tie.Start Inv-loop μ-loop = search in
+    (omega arith, (refl, rw (c .initial-hash .ensures, hash-start _ (start .pre))))
 
 message-requires : tie.Need-message-requires Inv-loop μ-loop
 message-requires c κs =
-    let b = in-blocks _ (c .before .before .before .before .pre) in
+    let start : tie.Start Inv-loop μ-loop = search in
+    let b = in-blocks _ (start .pre) in
     omega arith
-
-compress-requires : tie.Need-compress-requires Inv-loop μ-loop
-compress-requires c κs = search needs
-
-add-k : tie.Need-add-k Inv-loop μ-loop
-add-k c = search needs
-
-loop-less : tie.Need-loop-less Inv-loop μ-loop
-loop-less c = omega arith
 
 loop-again : tie.Need-loop-again Inv-loop μ-loop
 loop-again c =
-    let t = c .before .before in
-    let l = t .before .loop in
-    let b = in-blocks _ (t .before .before .before .before .pre) in
-    (omega arith, (omega arith, hash-more _ _ _ _ _ (t .loop-test .taken) b (l .inv .1 .0) (rw (c .before .message .ensures) at (c .compress .ensures)) (l .inv .1 .1)))
+    let at-message : tie.After-message Inv-loop μ-loop = search in
+    let t : tie.In-loop Inv-loop μ-loop = search in
+    let l : tie.At-loop Inv-loop μ-loop = search in
+    let start : tie.Start Inv-loop μ-loop = search in
+    let b = in-blocks _ (start .pre) in
+    (omega arith, (omega arith, hash-more _ _ _ _ _ (t .loop-test .taken) b (l .loop .inv .1 .0) (rw (at-message .message .ensures) at (c .compress .ensures)) (l .loop .inv .1 .1)))
 
 returns : tie.Need-returns Inv-loop μ-loop
-returns c = hash-done (c .before .before .before .before .args .ws .now) _ _ (c .before .loop .k) (c .loop-test .left) (c .before .loop .inv .1 .1)
+returns c =
+    let at-loop : tie.At-loop Inv-loop μ-loop = search in
+    let start : tie.Start Inv-loop μ-loop = search in
+    hash-done (start .args .ws .now) _ _ (at-loop .loop .k) (c .loop-test .left) (at-loop .loop .inv .1 .1)
 
 pub hash-pool-spec : {M : Type 1} → statement M
 hash-pool-spec =
     tie.close
-    (tie.spec
-    Inv-loop
-    μ-loop
-    initial-hash-requires
-    loop-holds
-    message-requires
-    compress-requires
-    add-k
-    loop-less
-    loop-again
-    returns)
+    (tie.spec Inv-loop μ-loop (λ c κs. search needs) loop-holds message-requires (λ c κs. search needs) (λ c. search needs) (λ c. omega arith)
+    loop-again returns)

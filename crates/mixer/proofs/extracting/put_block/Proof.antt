@@ -15,65 +15,22 @@ Inv-loop out₀ k b n i₀ out i = (i ≤ n) × ((length out ≡ length out₀) 
 abbrev μ-loop : tie.MeasureT-loop
 μ-loop out₀ k b n i₀ out i = n - i
 
-sub-ten-of : tie.Need-sub-ten-of Inv-loop μ-loop
-sub-ten-of c = search needs
-
-ten-of-requires : tie.Need-ten-of-requires Inv-loop μ-loop
-ten-of-requires c κs = search needs
-
-loop-holds : tie.Need-loop-holds Inv-loop μ-loop
-loop-holds c = (omega arith, (refl, refl))
-
-array-read-out : tie.Need-array-read-out Inv-loop μ-loop
-array-read-out c = search needs
-
-add-out : tie.Need-add-out Inv-loop μ-loop
-add-out c = search needs
-
-slice-write-out : tie.Need-slice-write-out Inv-loop μ-loop
-slice-write-out c = search needs
-
-add-i : tie.Need-add-i Inv-loop μ-loop
-add-i c = search needs
-
-loop-less : tie.Need-loop-less Inv-loop μ-loop
-loop-less c = search needs
-
 loop-again : tie.Need-loop-again Inv-loop μ-loop
 loop-again c =
-    let l = c .before .loop in
-    let a = c .before .before .before .before .args in
-    let n = c .before .before .ten-of .ensures in
-    (omega arith, (simp length-set (l .inv .1 .0), rw (add-one, l .inv .1 .1) (sets-suc (a .out .now) (a .k) (a .t3) (l .i) (omega arith))))
-
-add-result : tie.Need-add-result Inv-loop μ-loop
-add-result c = search needs
-
-same-length : tie.Need-same-length Inv-loop μ-loop
-same-length c = search needs
+    let l : tie.At-loop Inv-loop μ-loop = search in
+    let n : tie.After-ten-of Inv-loop μ-loop = search in
+    let a : tie.Start Inv-loop μ-loop = search in
+    (omega arith, (simp length-set (l .loop .inv .1 .0), rw (add-one, l .loop .inv .1 .1) (sets-suc (a .args .out .now) (a .args .k) (a .args .t3) (l .loop .i) (omega arith))))
 
 returns : tie.Need-returns Inv-loop μ-loop
 returns c =
-    let l = c .before .loop in
-    let t = c .before .before .ten-of in
-    let e : l .i ≡ t .result = omega arith in
-    (rw (← t .ensures, ← e) (l .inv .1 .1), rw (t .ensures))
+    let l : tie.At-loop Inv-loop μ-loop = search in
+    let t : tie.After-ten-of Inv-loop μ-loop = search in
+    let e : l .loop .i ≡ t .ten-of .result = omega arith in
+    (rw (← t .ten-of .ensures, ← e) (l .loop .inv .1 .1), rw (t .ten-of .ensures))
 
 pub put-block-spec : {M : Type 1} → statement M
 put-block-spec =
     tie.close
-    (tie.spec
-    Inv-loop
-    μ-loop
-    sub-ten-of
-    ten-of-requires
-    loop-holds
-    array-read-out
-    add-out
-    slice-write-out
-    add-i
-    loop-less
-    loop-again
-    add-result
-    same-length
-    returns)
+    (tie.spec Inv-loop μ-loop (λ c. search needs) (λ c κs. search needs) (λ c. (omega arith, (refl, refl))) (λ c. search needs) (λ c. search needs)
+    (λ c. search needs) (λ c. search needs) (λ c. search needs) loop-again (λ c. search needs) (λ c. search needs) returns)

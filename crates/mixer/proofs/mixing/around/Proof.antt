@@ -4,13 +4,10 @@ use borrow.Author.Needs.{needs}
 use Rattle.mixer.proofs.mixing.around.Statement.{statement}
 use Rattle.mixer.proofs.mixing.around.Tie as tie
 
-sub-result : tie.Need-sub-result
-sub-result c = search needs
-
 returns : tie.Need-returns
 returns c =
     let e = masked (c .args .j) (c .args .n) (c .pre .one-of) in
     (e, rw e (mod-lt (c .args .j) (c .pre .some)))
 
 pub around-spec : {M : Type 1} → statement M
-around-spec = tie.close (tie.spec sub-result returns)
+around-spec = tie.close (tie.spec (λ c. search needs) returns)

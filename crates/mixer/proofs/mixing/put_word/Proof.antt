@@ -1,39 +1,16 @@
 use mathlib.Core.Path.{refl}
 use Rattle.words.specs.Bytes.{leBytes}
-use Rattle.mixer.proofs.Mixes.{mixed-then}
+use Rattle.mixer.proofs.Mixes.{mixed-then, taps-on}
 use borrow.Author.Needs.{needs}
 use Rattle.mixer.proofs.mixing.put_word.Statement.{statement}
 use Rattle.mixer.proofs.mixing.put_word.Tie as tie
-
-cast-put : tie.Need-cast-put
-cast-put c = search needs
-
-put-requires : tie.Need-put-requires
-put-requires c κs = search needs
-
-cast-put-2 : tie.Need-cast-put-2
-cast-put-2 c = search needs
-
-put-requires-2 : tie.Need-put-requires-2
-put-requires-2 c κs =
-    let s : tie.Start = search in
-    let p : tie.After-put = search in
-    let m = p .put .ensures in
-    (s .pre .0, (m .stands, rw (m .as-many) (s .pre .1 .1)))
-
-cast-put-3 : tie.Need-cast-put-3
-cast-put-3 c = search needs
 
 put-requires-3 : tie.Need-put-requires-3
 put-requires-3 c κs =
     let s : tie.Start = search in
     let p : tie.After-put = search in
     let q : tie.After-put2 = search in
-    let m = mixed-then _ _ _ _ _ _ _ _ _ refl (p .put .ensures) (q .put2 .ensures) in
-    (s .pre .0, (m .stands, rw (m .as-many) (s .pre .1 .1)))
-
-cast-put-4 : tie.Need-cast-put-4
-cast-put-4 c = search needs
+    (s .pre .0, (q .put2 .ensures .stands, taps-on (taps-on (s .pre .1 .1) (p .put .ensures)) (q .put2 .ensures)))
 
 put-requires-4 : tie.Need-put-requires-4
 put-requires-4 c κs =
@@ -41,11 +18,7 @@ put-requires-4 c κs =
     let p : tie.After-put = search in
     let q : tie.After-put2 = search in
     let r : tie.After-put3 = search in
-    let m = mixed-then _ _ _ _ _ _ _ _ _ refl (mixed-then _ _ _ _ _ _ _ _ _ refl (p .put .ensures) (q .put2 .ensures)) (r .put3 .ensures) in
-    (s .pre .0, (m .stands, rw (m .as-many) (s .pre .1 .1)))
-
-same-length : tie.Need-same-length
-same-length c = search needs
+    (s .pre .0, (r .put3 .ensures .stands, taps-on (taps-on (taps-on (s .pre .1 .1) (p .put .ensures)) (q .put2 .ensures)) (r .put3 .ensures)))
 
 returns : tie.Need-returns
 unfolding leBytes
@@ -60,14 +33,5 @@ returns c =
 pub put-word-spec : {M : Type 1} → statement M
 put-word-spec =
     tie.close
-    (tie.spec
-    cast-put
-    put-requires
-    cast-put-2
-    put-requires-2
-    cast-put-3
-    put-requires-3
-    cast-put-4
-    put-requires-4
-    same-length
-    returns)
+    (tie.spec (λ c. search needs) (λ c κs. search needs) (λ c. search needs) (λ c κs. search (taps-on, needs)) (λ c. search needs) put-requires-3
+    (λ c. search needs) put-requires-4 (λ c. search needs) returns)

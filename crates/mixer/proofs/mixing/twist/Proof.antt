@@ -1,19 +1,10 @@
-use mathlib.Core.Path.{refl, ap, _∙_}
+use mathlib.Core.Path.{refl, ap}
 use native.Mathlib.Omega.{arith}
-use Prim.Native.Nat.{ℕ}
-use mathlib.Core.List.{List}
-use lib.ListN.{length, getD}
-use lib.Bits.{bitXor}
-use Rattle.pool.specs.Mixing.{twisted, twistTable}
+use lib.ListN.{length}
+use Rattle.pool.specs.Mixing.{twisted}
 use borrow.Author.Needs.{needs}
 use Rattle.mixer.proofs.mixing.twist.Statement.{statement}
 use Rattle.mixer.proofs.mixing.twist.Tie as tie
-
-cast-k : tie.Need-cast-k
-cast-k c = search needs
-
-mul-result : tie.Need-mul-result
-mul-result c = search needs
 
 shared-slice-read-result : tie.Need-shared-slice-read-result
 shared-slice-read-result c =
@@ -25,4 +16,4 @@ unfolding twisted
 returns c = rw (c .before .pre) refl
 
 pub twist-spec : {M : Type 1} → statement M
-twist-spec = tie.close (tie.spec cast-k mul-result shared-slice-read-result returns)
+twist-spec = tie.close (tie.spec (λ c. search needs) (λ c. search needs) shared-slice-read-result returns)

@@ -3,17 +3,11 @@ use borrow.Author.Needs.{needs}
 use Rattle.mixer.proofs.mixing.word_at.Statement.{statement}
 use Rattle.mixer.proofs.mixing.word_at.Tie as tie
 
-around-requires : tie.Need-around-requires
-around-requires c κs = search needs
-
-mul-result : tie.Need-mul-result
-mul-result c = search needs
-
-shared-slice-read-result : tie.Need-shared-slice-read-result
-shared-slice-read-result c = search needs
-
 returns : tie.Need-returns
-returns c = rw (c .before .around .ensures .0, shape-words _ (c .before .before .before .pre))
+returns c =
+    let at-around : tie.After-around = search in
+    let start : tie.Start = search in
+    rw (at-around .around .ensures .0, shape-words _ (start .pre))
 
 pub word-at-spec : {M : Type 1} → statement M
-word-at-spec = tie.close (tie.spec around-requires mul-result shared-slice-read-result returns)
+word-at-spec = tie.close (tie.spec (λ c κs. search needs) (λ c. search needs) (λ c. search needs) returns)

@@ -1,4 +1,4 @@
-use mathlib.Core.Path.{_≡_, ap, _∙_}
+use mathlib.Core.Path.{ap, _∙_}
 use mathlib.Core.List.{List, zipWith}
 use Prim.Native.Nat.{ℕ}
 use Rattle.words.specs.Words.{add}
@@ -7,24 +7,6 @@ use Rattle.sha1.proofs.Schedule.{by-twenty}
 use borrow.Author.Needs.{needs}
 use Rattle.sha1.proofs.blocks.compress.Statement.{statement}
 use Rattle.sha1.proofs.blocks.compress.Tie as tie
-
-schedule-requires : tie.Need-schedule-requires
-schedule-requires c κs = search needs
-
-twenty-requires : tie.Need-twenty-requires
-twenty-requires c κs = search needs
-
-twenty-requires-2 : tie.Need-twenty-requires-2
-twenty-requires-2 c κs = search needs
-
-twenty-requires-3 : tie.Need-twenty-requires-3
-twenty-requires-3 c κs = search needs
-
-twenty-requires-4 : tie.Need-twenty-requires-4
-twenty-requires-4 c κs = search needs
-
-add-words-requires : tie.Need-add-words-requires
-add-words-requires c κs = search needs
 
 returns : tie.Need-returns
 unfolding compressed
@@ -38,11 +20,5 @@ returns c =
 pub compress-spec : {M : Type 1} → statement M
 compress-spec =
     tie.close
-    (tie.spec
-    schedule-requires
-    twenty-requires
-    twenty-requires-2
-    twenty-requires-3
-    twenty-requires-4
-    add-words-requires
-    returns)
+    (tie.spec (λ c κs. search needs) (λ c κs. search needs) (λ c κs. search needs) (λ c κs. search needs) (λ c κs. search needs)
+    (λ c κs. search needs) returns)

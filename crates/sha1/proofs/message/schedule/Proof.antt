@@ -1,5 +1,5 @@
-use mathlib.Core.Path.{_≡_, refl, ap, sym, _∙_}
-use Prim.Native.Nat.{_≤_, _-_, _+_, _*_}
+use mathlib.Core.Path.{_≡_, refl}
+use Prim.Native.Nat.{_≤_, _-_}
 use borrow.Author.Needs.{needs}
 use native.Mathlib.Omega.{arith}
 use native.Mathlib.Numerals.{add-one}
@@ -25,24 +25,6 @@ abbrev μ-loop2 : tie.MeasureT-loop2
 loop-holds : tie.Need-loop-holds Inv-loop μ-loop Inv-loop2 μ-loop2
 loop-holds c = (search needs, search needs, refl)
 
-mul-w : tie.Need-mul-w Inv-loop μ-loop Inv-loop2 μ-loop2
-mul-w c = search needs
-
-array-read-w : tie.Need-array-read-w Inv-loop μ-loop Inv-loop2 μ-loop2
-array-read-w c = search needs
-
-mul-w-2 : tie.Need-mul-w-2 Inv-loop μ-loop Inv-loop2 μ-loop2
-mul-w-2 c = search needs
-
-array-write-w : tie.Need-array-write-w Inv-loop μ-loop Inv-loop2 μ-loop2
-array-write-w c = search needs
-
-add-i : tie.Need-add-i Inv-loop μ-loop Inv-loop2 μ-loop2
-add-i c = search needs
-
-loop-less : tie.Need-loop-less Inv-loop μ-loop Inv-loop2 μ-loop2
-loop-less c = search needs
-
 loop-again : tie.Need-loop-again Inv-loop μ-loop Inv-loop2 μ-loop2
 loop-again c =
     let l = c .before .loop in
@@ -52,57 +34,6 @@ loop-again c =
 loop2-holds : tie.Need-loop2-holds Inv-loop μ-loop Inv-loop2 μ-loop2
 unfolding schedule
 loop2-holds c = (search needs, search needs, search needs, refl)
-
-sub-rotate-left : tie.Need-sub-rotate-left Inv-loop μ-loop Inv-loop2 μ-loop2
-sub-rotate-left c = search needs
-
-mul-rotate-left : tie.Need-mul-rotate-left Inv-loop μ-loop Inv-loop2 μ-loop2
-mul-rotate-left c = search needs
-
-array-read-rotate-left : tie.Need-array-read-rotate-left Inv-loop μ-loop Inv-loop2 μ-loop2
-array-read-rotate-left c = search needs
-
-sub-rotate-left-2 : tie.Need-sub-rotate-left-2 Inv-loop μ-loop Inv-loop2 μ-loop2
-sub-rotate-left-2 c = search needs
-
-mul-rotate-left-2 : tie.Need-mul-rotate-left-2 Inv-loop μ-loop Inv-loop2 μ-loop2
-mul-rotate-left-2 c = search needs
-
-array-read-rotate-left-2 : tie.Need-array-read-rotate-left-2 Inv-loop μ-loop Inv-loop2 μ-loop2
-array-read-rotate-left-2 c = search needs
-
-sub-rotate-left-3 : tie.Need-sub-rotate-left-3 Inv-loop μ-loop Inv-loop2 μ-loop2
-sub-rotate-left-3 c = search needs
-
-mul-rotate-left-3 : tie.Need-mul-rotate-left-3 Inv-loop μ-loop Inv-loop2 μ-loop2
-mul-rotate-left-3 c = search needs
-
-array-read-rotate-left-3 : tie.Need-array-read-rotate-left-3 Inv-loop μ-loop Inv-loop2 μ-loop2
-array-read-rotate-left-3 c = search needs
-
-sub-rotate-left-4 : tie.Need-sub-rotate-left-4 Inv-loop μ-loop Inv-loop2 μ-loop2
-sub-rotate-left-4 c = search needs
-
-mul-rotate-left-4 : tie.Need-mul-rotate-left-4 Inv-loop μ-loop Inv-loop2 μ-loop2
-mul-rotate-left-4 c = search needs
-
-array-read-rotate-left-4 : tie.Need-array-read-rotate-left-4 Inv-loop μ-loop Inv-loop2 μ-loop2
-array-read-rotate-left-4 c = search needs
-
-rotate-left-requires : tie.Need-rotate-left-requires Inv-loop μ-loop Inv-loop2 μ-loop2
-rotate-left-requires c κs = search needs
-
-mul-w-3 : tie.Need-mul-w-3 Inv-loop μ-loop Inv-loop2 μ-loop2
-mul-w-3 c = search needs
-
-array-write-w-2 : tie.Need-array-write-w-2 Inv-loop μ-loop Inv-loop2 μ-loop2
-array-write-w-2 c = search needs
-
-add-t : tie.Need-add-t Inv-loop μ-loop Inv-loop2 μ-loop2
-add-t c = search needs
-
-loop2-less : tie.Need-loop2-less Inv-loop μ-loop Inv-loop2 μ-loop2
-loop2-less c = search needs
 
 loop2-again : tie.Need-loop2-again Inv-loop μ-loop Inv-loop2 μ-loop2
 unfolding nextWord
@@ -125,36 +56,7 @@ returns c =
 pub schedule-spec : {M : Type 1} → statement M
 schedule-spec =
     tie.close
-    (tie.spec
-    Inv-loop
-    μ-loop
-    Inv-loop2
-    μ-loop2
-    loop-holds
-    mul-w
-    array-read-w
-    mul-w-2
-    array-write-w
-    add-i
-    loop-less
-    loop-again
-    loop2-holds
-    sub-rotate-left
-    mul-rotate-left
-    array-read-rotate-left
-    sub-rotate-left-2
-    mul-rotate-left-2
-    array-read-rotate-left-2
-    sub-rotate-left-3
-    mul-rotate-left-3
-    array-read-rotate-left-3
-    sub-rotate-left-4
-    mul-rotate-left-4
-    array-read-rotate-left-4
-    rotate-left-requires
-    mul-w-3
-    array-write-w-2
-    add-t
-    loop2-less
-    loop2-again
-    returns)
+    (tie.spec Inv-loop μ-loop Inv-loop2 μ-loop2 loop-holds (λ c. search needs) (λ c. search needs) (λ c. search needs) (λ c. search needs)
+    (λ c. search needs) (λ c. search needs) loop-again loop2-holds (λ c. search needs) (λ c. search needs) (λ c. search needs) (λ c. search needs)
+    (λ c. search needs) (λ c. search needs) (λ c. search needs) (λ c. search needs) (λ c. search needs) (λ c. search needs) (λ c. search needs)
+    (λ c. search needs) (λ c κs. search needs) (λ c. search needs) (λ c. search needs) (λ c. search needs) (λ c. search needs) loop2-again returns)

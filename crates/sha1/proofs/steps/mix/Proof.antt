@@ -1,4 +1,4 @@
-use mathlib.Core.Path.{_≡_, refl, sym}
+use mathlib.Core.Path.{_≡_, refl}
 use Prim.Native.Nat.{ℕ, zero, suc}
 use Rattle.sha1.specs.Sha1.{mix, ch, parity, maj}
 use Rattle.sha1.proofs.steps.mix.Statement.{statement}

@@ -10,9 +10,6 @@ use Rattle.transcript.proofs.lines.ending.Tie as tie
 returns : tie.Need-returns
 returns c = refuses-end _ _ (omega arith)
 
-slice-write-room : tie.Need-slice-write-room
-slice-write-room c = search needs
-
 slice-write-room-2 : tie.Need-slice-write-room-2
 slice-write-room-2 c = simp length-set (omega arith)
 
@@ -28,9 +25,6 @@ number-requires c κs = simp length-set (omega arith)
 slice-write-room-5 : tie.Need-slice-write-room-5
 slice-write-room-5 c = omega (arith, c .before .before .number .kept .1 .0, letters-size (c .before .before .before .before .before .before .args .room .now))
 
-add-result : tie.Need-add-result
-add-result c = search needs
-
 same-length : tie.Need-same-length
 same-length c = simp length-set (c .before .before .number .kept .1 .0 ∙ letters-size (c .before .before .before .before .before .before .args .room .now))
 
@@ -42,14 +36,5 @@ returns-2 c = fits-end _ _ _ _ (omega arith) (omega (arith, c .before .before .n
 pub ending-spec : {M : Type 1} → statement M
 ending-spec =
     tie.close
-    (tie.spec
-    returns
-    slice-write-room
-    slice-write-room-2
-    slice-write-room-3
-    slice-write-room-4
-    number-requires
-    slice-write-room-5
-    add-result
-    same-length
-    returns-2)
+    (tie.spec returns (λ c. search needs) slice-write-room-2 slice-write-room-3 slice-write-room-4 number-requires slice-write-room-5
+    (λ c. search needs) same-length returns-2)

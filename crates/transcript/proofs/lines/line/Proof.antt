@@ -11,35 +11,8 @@ use Rattle.transcript.proofs.lines.line.Tie as tie
 returns : tie.Need-returns
 returns c = refuses _ _ _ _ (now (c .before .before .before .args .bytes)) (omega arith)
 
-sub-if2 : tie.Need-sub-if2
-sub-if2 c = search needs
-
 returns-2 : tie.Need-returns-2
 returns-2 c = refuses _ _ _ _ (now (c .before .before .before .before .args .bytes)) (omega arith)
-
-word-requires : tie.Need-word-requires
-word-requires c κs = search needs
-
-word-requires-2 : tie.Need-word-requires-2
-word-requires-2 c κs = search needs
-
-word-requires-3 : tie.Need-word-requires-3
-word-requires-3 c κs = search needs
-
-word-requires-4 : tie.Need-word-requires-4
-word-requires-4 c κs = search needs
-
-word-requires-5 : tie.Need-word-requires-5
-word-requires-5 c κs = search needs
-
-number-requires : tie.Need-number-requires
-number-requires c κs = search needs
-
-tail-requires : tie.Need-tail-requires
-tail-requires c κs = search needs
-
-slice-write-room : tie.Need-slice-write-room
-slice-write-room c = search needs
 
 -- p1 to p7 are where the seven texts of the line were written, in their order
 add-result : tie.Need-add-result
@@ -119,18 +92,5 @@ returns-3 c =
 pub line-spec : {M : Type 1} → statement M
 line-spec =
     tie.close
-    (tie.spec
-    returns
-    sub-if2
-    returns-2
-    word-requires
-    word-requires-2
-    word-requires-3
-    word-requires-4
-    word-requires-5
-    number-requires
-    tail-requires
-    slice-write-room
-    add-result
-    same-length
-    returns-3)
+    (tie.spec returns (λ c. search needs) returns-2 (λ c κs. search needs) (λ c κs. search needs) (λ c κs. search needs) (λ c κs. search needs)
+    (λ c κs. search needs) (λ c κs. search needs) (λ c κs. search needs) (λ c. search needs) add-result same-length returns-3)

@@ -10,12 +10,6 @@ use Rattle.transcript.proofs.text.tail.Tie as tie
 returns : tie.Need-returns
 returns c = (put-none _ (now (c .before .before .before .args .bytes)) _ (c .if1 .taken), omega arith)
 
-slice-write-room : tie.Need-slice-write-room
-slice-write-room c = search needs
-
-add-hex : tie.Need-add-hex
-add-hex c = search needs
-
 hex-requires : tie.Need-hex-requires
 hex-requires c κs = simp length-set (omega arith)
 
@@ -29,5 +23,4 @@ returns-2 c =
     (put-some _ _ _ _ _ (c .before .before .before .before .if1 .left) h, omega (arith, h .place, length-hex (now (s .args .bytes))))
 
 pub tail-spec : {M : Type 1} → statement M
-tail-spec =
-    tie.close (tie.spec returns slice-write-room add-hex hex-requires same-length returns-2)
+tail-spec = tie.close (tie.spec returns (λ c. search needs) (λ c. search needs) hex-requires same-length returns-2)

@@ -3,15 +3,9 @@ use borrow.Author.Needs.{needs}
 use Rattle.words.proofs.bytes.bytes_of_u16.Statement.{statement}
 use Rattle.words.proofs.bytes.bytes_of_u16.Tie as tie
 
-cast-t4 : tie.Need-cast-t4
-cast-t4 c = search needs
-
-cast-t6 : tie.Need-cast-t6
-cast-t6 c = search needs
-
 returns : tie.Need-returns
 unfolding leBytes
 returns c = search needs
 
 pub bytes-of-u16-spec : {M : Type 1} → statement M
-bytes-of-u16-spec = tie.close (tie.spec cast-t4 cast-t6 returns)
+bytes-of-u16-spec = tie.close (tie.spec (λ c. search needs) (λ c. search needs) returns)

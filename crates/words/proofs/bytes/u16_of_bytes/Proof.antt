@@ -4,27 +4,6 @@ use borrow.Author.Needs.{needs}
 use Rattle.words.proofs.bytes.u16_of_bytes.Statement.{statement}
 use Rattle.words.proofs.bytes.u16_of_bytes.Tie as tie
 
-array-read-wide : tie.Need-array-read-wide
-array-read-wide c = search needs
-
-wide-requires : tie.Need-wide-requires
-wide-requires c κs = search needs
-
-array-read-wide-2 : tie.Need-array-read-wide-2
-array-read-wide-2 c = search needs
-
-wide-requires-2 : tie.Need-wide-requires-2
-wide-requires-2 c κs = search needs
-
-mul-result : tie.Need-mul-result
-mul-result c = search needs
-
-add-result : tie.Need-add-result
-add-result c = search needs
-
-cast-result : tie.Need-cast-result
-cast-result c = search needs
-
 returns : tie.Need-returns
 unfolding num
 returns c = omega (arith, num-all 2 (c .before .before .args .t1) (omega arith))
@@ -32,12 +11,5 @@ returns c = omega (arith, num-all 2 (c .before .before .args .t1) (omega arith))
 pub u16-of-bytes-spec : {M : Type 1} → statement M
 u16-of-bytes-spec =
     tie.close
-    (tie.spec
-    array-read-wide
-    wide-requires
-    array-read-wide-2
-    wide-requires-2
-    mul-result
-    add-result
-    cast-result
-    returns)
+    (tie.spec (λ c. search needs) (λ c κs. search needs) (λ c. search needs) (λ c κs. search needs) (λ c. search needs) (λ c. search needs)
+    (λ c. search needs) returns)

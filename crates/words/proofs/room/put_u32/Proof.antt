@@ -15,23 +15,8 @@ Inv-loop out₀ at x b i₀ out i = (i ≤ 4) × (length out ≡ length out₀) 
 abbrev μ-loop : tie.MeasureT-loop
 μ-loop out₀ at x b i₀ out i = 4 - i
 
-bytes-of-u32-requires : tie.Need-bytes-of-u32-requires Inv-loop μ-loop
-bytes-of-u32-requires c κs = search needs
-
 loop-holds : tie.Need-loop-holds Inv-loop μ-loop
 loop-holds c = (search needs, search needs, refl)
-
-array-read-put-byte : tie.Need-array-read-put-byte Inv-loop μ-loop
-array-read-put-byte c = search needs
-
-put-byte-requires : tie.Need-put-byte-requires Inv-loop μ-loop
-put-byte-requires c κs = search needs
-
-add-i : tie.Need-add-i Inv-loop μ-loop
-add-i c = search needs
-
-loop-less : tie.Need-loop-less Inv-loop μ-loop
-loop-less c = search needs
 
 loop-again : tie.Need-loop-again Inv-loop μ-loop
 loop-again c =
@@ -39,9 +24,6 @@ loop-again c =
     let b = c .before .before .before .before .before .before .bytes-of-u32 .result in
     let a = c .before .before .before .before .before .before .before .before .args in
     (search needs, search needs, rw (add-one, c .before .before .put-byte .ensures, l .inv .2) (sets-suc (a .out .now) (a .at) b (l .i) (omega arith)))
-
-same-length : tie.Need-same-length Inv-loop μ-loop
-same-length c = search needs
 
 returns : tie.Need-returns Inv-loop μ-loop
 returns c =
@@ -53,15 +35,5 @@ returns c =
 pub put-u32-spec : {M : Type 1} → statement M
 put-u32-spec =
     tie.close
-    (tie.spec
-    Inv-loop
-    μ-loop
-    bytes-of-u32-requires
-    loop-holds
-    array-read-put-byte
-    put-byte-requires
-    add-i
-    loop-less
-    loop-again
-    same-length
-    returns)
+    (tie.spec Inv-loop μ-loop (λ c κs. search needs) loop-holds (λ c. search needs) (λ c κs. search needs) (λ c. search needs) (λ c. search needs)
+    loop-again (λ c. search needs) returns)

@@ -5,17 +5,8 @@ use borrow.Author.Needs.{needs}
 use Rattle.words.proofs.turn.rotate_left.Statement.{statement}
 use Rattle.words.proofs.turn.rotate_left.Tie as tie
 
-shl-result : tie.Need-shl-result
-shl-result c = search needs
-
-sub-result : tie.Need-sub-result
-sub-result c = search needs
-
-shr-result : tie.Need-shr-result
-shr-result c = search needs
-
 returns : tie.Need-returns
 returns c = by-shifts (c .args .x) (c .args .k % 32) (omega arith) (omega arith)
 
 pub rotate-left-spec : {M : Type 1} → statement M
-rotate-left-spec = tie.close (tie.spec shl-result sub-result shr-result returns)
+rotate-left-spec = tie.close (tie.spec (λ c. search needs) (λ c. search needs) (λ c. search needs) returns)
