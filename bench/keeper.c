@@ -55,16 +55,16 @@ static void events(struct side *s, const struct keeper_calls *c, unsigned n) {
 /* the tally is put back, so that the 64th does not spill */
 static void interrupts(struct side *s, const struct keeper_calls *c, unsigned n) {
     for (unsigned i = 0; i < n; i++) {
-        s->keeper.ledger.tally = 0;
+        s->keeper.ledger.spill.tally = 0;
         s->answers[i] = c->interrupt(
-            &s->keeper, s->keeper.ledger.last_spill + i % 1000, i % 40, 0x9e3779b97f4a7c15u * (i + 1), 0x08000000u + 4 * i);
+            &s->keeper, s->keeper.ledger.spill.clock + i % 1000, i % 40, 0x9e3779b97f4a7c15u * (i + 1), 0x08000000u + 4 * i);
     }
 }
 
 static void spills(struct side *s, const struct keeper_calls *c, unsigned n) {
     for (unsigned i = 0; i < n; i++)
         s->answers[i] = c->interrupt(
-            &s->keeper, s->keeper.ledger.last_spill + 1001, i % 40, 0x9e3779b97f4a7c15u * (i + 1), 0x08000000u + 4 * i);
+            &s->keeper, s->keeper.ledger.spill.clock + 1001, i % 40, 0x9e3779b97f4a7c15u * (i + 1), 0x08000000u + 4 * i);
 }
 
 static void writes(struct side *s, const struct keeper_calls *c, unsigned n) {
@@ -72,14 +72,14 @@ static void writes(struct side *s, const struct keeper_calls *c, unsigned n) {
 }
 
 static void reads(struct side *s, const struct keeper_calls *c, unsigned n) {
-    for (unsigned i = 0; i < n; i++) s->answers[i] = c->read(&s->keeper, s->keeper.ledger.seeding_clock + i, s->room, length);
+    for (unsigned i = 0; i < n; i++) s->answers[i] = c->read(&s->keeper, s->keeper.ledger.seeding.clock + i, s->room, length);
 }
 
 /* the counts are put back, so that each read brings 128 bytes over and hands out what they are credited for */
 static void blocking_reads(struct side *s, const struct keeper_calls *c, unsigned n) {
     for (unsigned i = 0; i < n; i++) {
-        s->keeper.ledger.input_count = 32768;
-        s->keeper.ledger.blocking_count = 0;
+        s->keeper.ledger.input.count = 32768;
+        s->keeper.ledger.blocking.count = 0;
         s->answers[i] = c->blocking_read(&s->keeper, s->room, BLOCKING_LENGTH);
     }
 }

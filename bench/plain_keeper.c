@@ -38,9 +38,9 @@ static inline int32_t since(uint32_t now, uint32_t then) {
 
 static int in_range(const struct nk_keeper *k) {
     const struct nk_ledger *l = &k->ledger;
-    if (l->input_count > INPUT_SIZE || l->blocking_count > BLOCKING_SIZE || l->tally >= SPILL_AT) return 0;
-    if (l->input_spot.at > 127 || l->input_spot.turn > 31) return 0;
-    if (l->blocking_spot.at > 31 || l->blocking_spot.turn > 31) return 0;
+    if (l->input.count > INPUT_SIZE || l->blocking.count > BLOCKING_SIZE || l->spill.tally >= SPILL_AT) return 0;
+    if (l->input.spot.at > 127 || l->input.spot.turn > 31) return 0;
+    if (l->blocking.spot.at > 31 || l->blocking.spot.turn > 31) return 0;
     for (int i = 0; i < 4; i++)
         if (k->generator[i] != constants[i]) return 0;
     /* no way out of the loop, so that the compiler can take several timers at a time; each number is below 2^32 where its timer is in range */
@@ -78,11 +78,11 @@ static inline void mix(uint32_t *words, struct nk_spot *spot, const struct shape
 }
 
 static void mix_input(struct nk_keeper *k, const uint8_t *bytes, size_t len) {
-    mix(k->input, &k->ledger.input_spot, &input_shape, bytes, len);
+    mix(k->input, &k->ledger.input.spot, &input_shape, bytes, len);
 }
 
 static void mix_blocking(struct nk_keeper *k, const uint8_t *bytes, size_t len) {
-    mix(k->blocking, &k->ledger.blocking_spot, &blocking_shape, bytes, len);
+    mix(k->blocking, &k->ledger.blocking.spot, &blocking_shape, bytes, len);
 }
 
 /* Fills out with bytes of the pool, ten a block; gives back the compressions. */
@@ -111,11 +111,11 @@ static inline uint32_t extract(uint32_t *words, struct nk_spot *spot, const stru
 }
 
 static uint32_t extract_input(struct nk_keeper *k, uint8_t *out, uint32_t len) {
-    return extract(k->input, &k->ledger.input_spot, &input_shape, out, len);
+    return extract(k->input, &k->ledger.input.spot, &input_shape, out, len);
 }
 
 static uint32_t extract_blocking(struct nk_keeper *k, uint8_t *out, uint32_t len) {
-    return extract(k->blocking, &k->ledger.blocking_spot, &blocking_shape, out, len);
+    return extract(k->blocking, &k->ledger.blocking.spot, &blocking_shape, out, len);
 }
 
 /* Credits and debits. Bits are at most 8 x 4,096, so 32 bits hold every product. */
@@ -141,19 +141,19 @@ static uint32_t debit(uint32_t *count, uint32_t wanted, uint32_t least) {
 
 static uint32_t reseed(struct nk_keeper *k, uint32_t now) {
     uint8_t bytes[32];
-    uint32_t taken = debit(&k->ledger.input_count, 32, 16);
+    uint32_t taken = debit(&k->ledger.input.count, 32, 16);
     if (taken == 0) return 0;
     uint32_t compressions = extract_input(k, bytes, taken);
     for (uint32_t i = 0; i < taken; i++) k->generator[4 + i / 4] ^= (uint32_t)bytes[i] << 8 * (i % 4);
-    k->ledger.seeding_clock = now;
-    k->ledger.seeded = 1;
+    k->ledger.seeding.clock = now;
+    k->ledger.seeding.mark = 1;
     return compressions;
 }
 
 /* Credits the input pool, and seeds a keeper that was waiting for it. */
 static uint32_t credit_input(struct nk_keeper *k, uint32_t now, uint32_t bits) {
-    credit(&k->ledger.input_count, INPUT_SIZE, bits);
-    if (bits == 0 || k->ledger.seeded == 1 || k->ledger.input_count < FIRST_SEEDING) return 0;
+    credit(&k->ledger.input.count, INPUT_SIZE, bits);
+    if (bits == 0 || k->ledger.seeding.mark == 1 || k->ledger.input.count < FIRST_SEEDING) return 0;
     return reseed(k, now);
 }
 
@@ -176,7 +176,7 @@ struct nk_answer plain_event(struct nk_keeper *k, uint32_t device, uint32_t now,
     uint8_t bytes[16];
     if (!in_range(k)) return refusal(NK_OUT_OF_RANGE);
     if (device >= NK_DEVICES) return refusal(NK_NO_SUCH_DEVICE);
-    if (device == 0 && value == k->ledger.last_value) return refusal(NK_REPEATED);
+    if (device == 0 && value == k->ledger.value) return refusal(NK_REPEATED);
     put32(bytes, (uint32_t)stamp);
     put32(bytes + 4, (uint32_t)(stamp >> 32));
     put32(bytes + 8, now);
@@ -187,7 +187,7 @@ struct nk_answer plain_event(struct nk_keeper *k, uint32_t device, uint32_t now,
     k->clocks[device] = now;
     k->firsts[device] = d1;
     k->seconds[device] = d2;
-    if (device == 0) k->ledger.last_value = value;
+    if (device == 0) k->ledger.value = value;
 
     uint64_t least = amount(d1);
     if (amount(d2) < least) least = amount(d2);
@@ -211,14 +211,14 @@ struct nk_answer plain_interrupt(struct nk_keeper *k, uint32_t now, uint32_t num
     k->fast[1] = b;
     k->fast[2] = c;
     k->fast[3] = d;
-    if (++k->ledger.tally < SPILL_AT && since(now, k->ledger.last_spill) <= SPILL_AFTER) return answer(NK_DONE, 0, 0, 0);
+    if (++k->ledger.spill.tally < SPILL_AT && since(now, k->ledger.spill.clock) <= SPILL_AFTER) return answer(NK_DONE, 0, 0, 0);
     put32(bytes, a);
     put32(bytes + 4, b);
     put32(bytes + 8, c);
     put32(bytes + 12, d);
     mix_input(k, bytes, sizeof bytes);
-    k->ledger.tally = 0;
-    k->ledger.last_spill = now;
+    k->ledger.spill.tally = 0;
+    k->ledger.spill.clock = now;
     return answer(NK_DONE, 0, 0, credit_input(k, now, 1));
 }
 
@@ -247,8 +247,8 @@ struct nk_answer plain_read(struct nk_keeper *k, uint32_t now, uint8_t *out, siz
     if (!in_range(k)) return refusal(NK_OUT_OF_RANGE);
     if (len > NK_LENGTH_MOST) return refusal(NK_TOO_LONG);
     if (len == 0) return answer(NK_DONE, 0, 0, 0);
-    if (k->ledger.seeded != 1) return refusal(NK_UNSEEDED);
-    uint32_t compressions = since(now, k->ledger.seeding_clock) > RESEED_AFTER ? reseed(k, now) : 0;
+    if (k->ledger.seeding.mark != 1) return refusal(NK_UNSEEDED);
+    uint32_t compressions = since(now, k->ledger.seeding.clock) > RESEED_AFTER ? reseed(k, now) : 0;
     uint32_t blocks = 0, used = 64;
     size_t left = len;
     for (; left >= 64; left -= 64, out += 64, blocks++) next_block(k->generator, out);
@@ -273,18 +273,18 @@ struct nk_answer plain_blocking_read(struct nk_keeper *k, uint8_t *out, size_t l
     if (!in_range(k)) return refusal(NK_OUT_OF_RANGE);
     if (len > NK_LENGTH_MOST) return refusal(NK_TOO_LONG);
     if (len == 0) return answer(NK_DONE, 0, 0, 0);
-    if (l->blocking_count < 64 && l->input_count < 512) return refusal(NK_WOULD_BLOCK);
+    if (l->blocking.count < 64 && l->input.count < 512) return refusal(NK_WOULD_BLOCK);
     uint32_t n = (uint32_t)len, compressions = 0;
-    if (l->blocking_count < 64 * n) {
+    if (l->blocking.count < 64 * n) {
         uint8_t bytes[128];
-        uint32_t taken = debit(&l->input_count, n < 8 ? 8 : n > 128 ? 128 : n, 8);
+        uint32_t taken = debit(&l->input.count, n < 8 ? 8 : n > 128 ? 128 : n, 8);
         if (taken > 0) {
             compressions += extract_input(k, bytes, taken);
             mix_blocking(k, bytes, taken);
-            credit(&l->blocking_count, BLOCKING_SIZE, 8 * taken);
+            credit(&l->blocking.count, BLOCKING_SIZE, 8 * taken);
         }
     }
-    uint32_t delivered = debit(&l->blocking_count, n, 0);
+    uint32_t delivered = debit(&l->blocking.count, n, 0);
     compressions += extract_blocking(k, out, delivered);
     return answer(NK_DONE, delivered, 0, compressions);
 }

@@ -24,8 +24,8 @@
  *   - one of `firsts` is outside -2^31 to 2^31 - 1, or one of `seconds` outside -(2^32 - 1) to 2^32 - 1,
  *   - one of generator words 0 to 3 is not the cipher's constant.
  * Every other bit pattern is a keeper in range. No record, whatever its bytes, makes a call do anything undefined. The only cure is
- * nk_make, from start bytes that were never used. The mark `seeded` is not part of this test: 1 is seeded, and any other number is read
- * as unseeded. So damage that leaves every field in range is not seen: a count that grew, or a mark that became 1.
+ * nk_make, from start bytes that were never used. `seeding.mark` is not part of this test: 1 is seeded, and any other number is read as
+ * unseeded. So damage that leaves every field in range is not seen: a count that grew, or a mark that became 1.
  *
  * MEMORY. The record wants the alignment of struct nk_keeper, 8 bytes; bytes and rooms want none. The record must lie where it can be
  * written: a refused call too stores the ledger back as it found it. No pointer may be null, not even one that comes with a length of 0.
@@ -107,8 +107,13 @@ enum {
     NK_OUT_OF_RANGE = 17    /* the record is damaged: wipe it, and make a keeper from a new start */
 };
 
+/* Sizes: devices, words of the record's four secret arrays, and bytes. */
 enum {
     NK_DEVICES = 16,
+    NK_INPUT_WORDS = 128,
+    NK_BLOCKING_WORDS = 32,
+    NK_FAST_WORDS = 4,
+    NK_GENERATOR_WORDS = 16,
     NK_START_LENGTH = 48,
     NK_LENGTH_MOST = 4096, /* of a write, a seed or a read */
     NK_STACK_MOST = 1024   /* bytes of stack that a call may use */
@@ -120,31 +125,45 @@ struct nk_spot {
     uint32_t turn;
 };
 
-/* The numbers that decide what a call does. Counts are credit in eighths of a bit. */
+/* What is public of a pool: its count, credit in eighths of a bit, and where its next byte goes. */
+struct nk_gauge {
+    uint32_t count;
+    struct nk_spot spot;
+};
+
+/* Interrupts since the last spill into the input pool, and the clock of that spill. */
+struct nk_spill {
+    uint32_t tally;
+    uint32_t clock;
+};
+
+/* Whether the generator was seeded, and the clock of the last seeding. */
+struct nk_seeding {
+    uint32_t mark; /* 1: seeded, for good; any other number: unseeded */
+    uint32_t clock;
+};
+
+/* The numbers that decide what a call does. */
 struct nk_ledger {
-    uint32_t input_count;
-    uint32_t blocking_count;
-    struct nk_spot input_spot;
-    struct nk_spot blocking_spot;
-    uint32_t last_value; /* device 0's last value */
-    uint32_t tally;      /* interrupts since the last spill into the input pool */
-    uint32_t last_spill; /* its clock */
-    uint32_t seeded;     /* 1: seeded, for good; any other number: unseeded */
-    uint32_t seeding_clock;
+    struct nk_gauge input;
+    struct nk_gauge blocking;
+    uint32_t value; /* device 0's last value */
+    struct nk_spill spill;
+    struct nk_seeding seeding;
 };
 
 /* The record. Fields may be read at any time between calls; a caller that writes them answers for what follows. */
 struct nk_keeper {
     struct nk_ledger ledger;
     /* a timer for each device: the clock of its last event, and that event's first and second difference */
-    uint32_t clocks[16];
-    int64_t firsts[16];
-    int64_t seconds[16];
+    uint32_t clocks[NK_DEVICES];
+    int64_t firsts[NK_DEVICES];
+    int64_t seconds[NK_DEVICES];
     /* secret from here on */
-    uint32_t input[128];
-    uint32_t blocking[32];
-    uint32_t fast[4];
-    uint32_t generator[16];
+    uint32_t input[NK_INPUT_WORDS];
+    uint32_t blocking[NK_BLOCKING_WORDS];
+    uint32_t fast[NK_FAST_WORDS];
+    uint32_t generator[NK_GENERATOR_WORDS];
 };
 
 struct nk_answer {
@@ -159,16 +178,23 @@ struct nk_answer {
 NK_HOLDS(sizeof(size_t) == 8);
 NK_HOLDS(sizeof(void *) == 8);
 NK_HOLDS(sizeof(struct nk_spot) == 8);
+NK_HOLDS(offsetof(struct nk_spot, at) == 0);
+NK_HOLDS(offsetof(struct nk_spot, turn) == 4);
+NK_HOLDS(sizeof(struct nk_gauge) == 12);
+NK_HOLDS(offsetof(struct nk_gauge, count) == 0);
+NK_HOLDS(offsetof(struct nk_gauge, spot) == 4);
+NK_HOLDS(sizeof(struct nk_spill) == 8);
+NK_HOLDS(offsetof(struct nk_spill, tally) == 0);
+NK_HOLDS(offsetof(struct nk_spill, clock) == 4);
+NK_HOLDS(sizeof(struct nk_seeding) == 8);
+NK_HOLDS(offsetof(struct nk_seeding, mark) == 0);
+NK_HOLDS(offsetof(struct nk_seeding, clock) == 4);
 NK_HOLDS(sizeof(struct nk_ledger) == 44);
-NK_HOLDS(offsetof(struct nk_ledger, input_count) == 0);
-NK_HOLDS(offsetof(struct nk_ledger, blocking_count) == 4);
-NK_HOLDS(offsetof(struct nk_ledger, input_spot) == 8);
-NK_HOLDS(offsetof(struct nk_ledger, blocking_spot) == 16);
-NK_HOLDS(offsetof(struct nk_ledger, last_value) == 24);
-NK_HOLDS(offsetof(struct nk_ledger, tally) == 28);
-NK_HOLDS(offsetof(struct nk_ledger, last_spill) == 32);
-NK_HOLDS(offsetof(struct nk_ledger, seeded) == 36);
-NK_HOLDS(offsetof(struct nk_ledger, seeding_clock) == 40);
+NK_HOLDS(offsetof(struct nk_ledger, input) == 0);
+NK_HOLDS(offsetof(struct nk_ledger, blocking) == 12);
+NK_HOLDS(offsetof(struct nk_ledger, value) == 24);
+NK_HOLDS(offsetof(struct nk_ledger, spill) == 28);
+NK_HOLDS(offsetof(struct nk_ledger, seeding) == 36);
 NK_HOLDS(sizeof(struct nk_keeper) == 1088);
 NK_HOLDS(offsetof(struct nk_keeper, ledger) == 0);
 NK_HOLDS(offsetof(struct nk_keeper, clocks) == 44);

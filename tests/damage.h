@@ -10,20 +10,20 @@ enum { DAMAGES = 274 };
 static inline int damage(struct nk_keeper *k, unsigned way) {
     struct nk_ledger *l = &k->ledger;
     switch (way) {
-    case 0: l->input_count = 32769; return 1;
-    case 1: l->input_count = UINT32_MAX; return 1;
-    case 2: l->blocking_count = 8193; return 1;
-    case 3: l->blocking_count = UINT32_MAX; return 1;
-    case 4: l->input_spot.at = 128; return 1;
-    case 5: l->input_spot.at = UINT32_MAX; return 1;
-    case 6: l->blocking_spot.at = 32; return 1;
-    case 7: l->blocking_spot.at = UINT32_MAX; return 1;
-    case 8: l->input_spot.turn = 32; return 1;
-    case 9: l->input_spot.turn = UINT32_MAX; return 1;
-    case 10: l->blocking_spot.turn = 32; return 1;
-    case 11: l->blocking_spot.turn = UINT32_MAX; return 1;
-    case 12: l->tally = 64; return 1;
-    case 13: l->tally = UINT32_MAX; return 1;
+    case 0: l->input.count = 32769; return 1;
+    case 1: l->input.count = UINT32_MAX; return 1;
+    case 2: l->blocking.count = 8193; return 1;
+    case 3: l->blocking.count = UINT32_MAX; return 1;
+    case 4: l->input.spot.at = 128; return 1;
+    case 5: l->input.spot.at = UINT32_MAX; return 1;
+    case 6: l->blocking.spot.at = 32; return 1;
+    case 7: l->blocking.spot.at = UINT32_MAX; return 1;
+    case 8: l->input.spot.turn = 32; return 1;
+    case 9: l->input.spot.turn = UINT32_MAX; return 1;
+    case 10: l->blocking.spot.turn = 32; return 1;
+    case 11: l->blocking.spot.turn = UINT32_MAX; return 1;
+    case 12: l->spill.tally = 64; return 1;
+    case 13: l->spill.tally = UINT32_MAX; return 1;
     default: way -= 14;
     }
     static const int64_t firsts[4] = {-2147483649, 2147483648, INT64_MIN, INT64_MAX};

@@ -78,7 +78,7 @@ static void lend_memory(void) {
 }
 
 /* The four bytes between clocks and firsts. */
-enum { PADDING = offsetof(struct nk_keeper, clocks) + sizeof(uint32_t[16]), PADDING_END = offsetof(struct nk_keeper, firsts) };
+enum { PADDING = offsetof(struct nk_keeper, clocks) + sizeof(uint32_t[NK_DEVICES]), PADDING_END = offsetof(struct nk_keeper, firsts) };
 
 /* All fields alike; the padding may differ. */
 static int same_fields(const struct nk_keeper *a, const struct nk_keeper *b) {
@@ -196,33 +196,33 @@ static void make_ready(struct nk_keeper *k) {
     make(k);
     for (size_t i = 0; i < sizeof noise; i++) noise[i] = (uint8_t)(i * 37 + 11);
     for (int i = 0; i < 2; i++) check(nk_seed(k, 5000, noise, sizeof noise, 4096).number == NK_DONE, "a seed is refused");
-    k->ledger.blocking_count = 4096;
-    for (int i = 0; i < 32; i++) k->blocking[i] = 0x9e3779b9u * (uint32_t)(i + 1);
+    k->ledger.blocking.count = 4096;
+    for (int i = 0; i < NK_BLOCKING_WORDS; i++) k->blocking[i] = 0x9e3779b9u * (uint32_t)(i + 1);
 }
 
 static const uint32_t constants[4] = {0x61707865, 0x3320646e, 0x79622d32, 0x6b206574};
 
 /* Any record in range: every field random, edges often. */
 static void random_record(struct nk_keeper *k) {
-    for (int i = 0; i < 128; i++) k->input[i] = (uint32_t)chance();
-    for (int i = 0; i < 32; i++) k->blocking[i] = (uint32_t)chance();
-    for (int i = 0; i < 4; i++) k->fast[i] = (uint32_t)chance();
-    for (int i = 0; i < 16; i++) k->generator[i] = i < 4 ? constants[i] : (uint32_t)chance();
+    for (int i = 0; i < NK_INPUT_WORDS; i++) k->input[i] = (uint32_t)chance();
+    for (int i = 0; i < NK_BLOCKING_WORDS; i++) k->blocking[i] = (uint32_t)chance();
+    for (int i = 0; i < NK_FAST_WORDS; i++) k->fast[i] = (uint32_t)chance();
+    for (int i = 0; i < NK_GENERATOR_WORDS; i++) k->generator[i] = i < 4 ? constants[i] : (uint32_t)chance();
     if (below(4) == 0) k->generator[12] = 0xffffffffu - below(70);
     if (below(8) == 0) k->generator[12] = 0xfffffffeu, k->generator[13] = 0xffffffffu;
     struct nk_ledger *l = &k->ledger;
-    l->input_count = below(3) ? below(32769) : below(2) ? 32768 - below(4) : below(1200);
-    l->blocking_count = below(3) ? below(8193) : below(2) ? 8192 - below(4) : below(130);
-    l->input_spot.at = below(128);
-    l->input_spot.turn = below(32);
-    l->blocking_spot.at = below(32);
-    l->blocking_spot.turn = below(32);
-    l->last_value = below(4);
-    l->tally = below(2) ? below(64) : 63;
-    l->last_spill = (uint32_t)chance();
-    l->seeded = below(4) ? 1 : below(2) ? 0 : (uint32_t)chance();
-    l->seeding_clock = (uint32_t)chance();
-    for (int i = 0; i < 16; i++) {
+    l->input.count = below(3) ? below(32769) : below(2) ? 32768 - below(4) : below(1200);
+    l->blocking.count = below(3) ? below(8193) : below(2) ? 8192 - below(4) : below(130);
+    l->input.spot.at = below(128);
+    l->input.spot.turn = below(32);
+    l->blocking.spot.at = below(32);
+    l->blocking.spot.turn = below(32);
+    l->value = below(4);
+    l->spill.tally = below(2) ? below(64) : 63;
+    l->spill.clock = (uint32_t)chance();
+    l->seeding.mark = below(4) ? 1 : below(2) ? 0 : (uint32_t)chance();
+    l->seeding.clock = (uint32_t)chance();
+    for (int i = 0; i < NK_DEVICES; i++) {
         k->clocks[i] = (uint32_t)chance();
         k->firsts[i] = below(4) ? (int32_t)chance() : below(2) ? INT32_MIN : INT32_MAX;
         k->seconds[i] = below(4) ? (int64_t)(chance() >> 32) - (int64_t)(chance() >> 32) : below(2) ? -4294967295 : 4294967295;
@@ -233,19 +233,19 @@ static void random_record(struct nk_keeper *k) {
 static int edge(struct nk_keeper *k, unsigned way) {
     struct nk_ledger *l = &k->ledger;
     switch (way) {
-    case 0: l->input_count = 32768; return 1;
-    case 1: l->input_count = 0; return 1;
-    case 2: l->blocking_count = 8192; return 1;
-    case 3: l->blocking_count = 0; return 1;
-    case 4: l->input_spot.at = 127; return 1;
-    case 5: l->blocking_spot.at = 31; return 1;
-    case 6: l->input_spot.turn = 31; return 1;
-    case 7: l->blocking_spot.turn = 31; return 1;
-    case 8: l->tally = 63; return 1;
-    case 9: l->seeded = 0; return 1;
-    case 10: l->seeded = 2; return 1;
-    case 11: l->seeded = UINT32_MAX; return 1;
-    case 12: l->seeded = 0x100; return 1;
+    case 0: l->input.count = 32768; return 1;
+    case 1: l->input.count = 0; return 1;
+    case 2: l->blocking.count = 8192; return 1;
+    case 3: l->blocking.count = 0; return 1;
+    case 4: l->input.spot.at = 127; return 1;
+    case 5: l->blocking.spot.at = 31; return 1;
+    case 6: l->input.spot.turn = 31; return 1;
+    case 7: l->blocking.spot.turn = 31; return 1;
+    case 8: l->spill.tally = 63; return 1;
+    case 9: l->seeding.mark = 0; return 1;
+    case 10: l->seeding.mark = 2; return 1;
+    case 11: l->seeding.mark = UINT32_MAX; return 1;
+    case 12: l->seeding.mark = 0x100; return 1;
     case 13: memset(k->generator + 4, 0xff, 48); return 1;
     case 14: memset(k->input, 0xff, sizeof k->input); return 1;
     case 15: memset(k->clocks, 0xff, sizeof k->clocks); return 1;
@@ -259,27 +259,30 @@ static int edge(struct nk_keeper *k, unsigned way) {
 
 /* The groups. */
 
+#define SIZE(type, size) check(sizeof(type) == (size), #type " has %zu bytes", sizeof(type))
 #define OFFSET(type, field, at) check(offsetof(type, field) == (at), #field " lies at %zu", offsetof(type, field))
 
 static void layout(void) {
     begin("sizes and offsets");
-    check(sizeof(struct nk_spot) == 8, "struct nk_spot has %zu bytes", sizeof(struct nk_spot));
-    check(sizeof(struct nk_ledger) == 44, "struct nk_ledger has %zu bytes", sizeof(struct nk_ledger));
-    check(sizeof(struct nk_keeper) == 1088, "struct nk_keeper has %zu bytes", sizeof(struct nk_keeper));
-    check(sizeof(struct nk_answer) == 16, "struct nk_answer has %zu bytes", sizeof(struct nk_answer));
+    SIZE(struct nk_spot, 8);
+    SIZE(struct nk_gauge, 12);
+    SIZE(struct nk_spill, 8);
+    SIZE(struct nk_seeding, 8);
+    SIZE(struct nk_ledger, 44);
+    SIZE(struct nk_keeper, 1088);
+    SIZE(struct nk_answer, 16);
     check(_Alignof(struct nk_keeper) == 8, "struct nk_keeper is aligned at %zu", _Alignof(struct nk_keeper));
-    OFFSET(struct nk_spot, at, 0);
-    OFFSET(struct nk_spot, turn, 4);
-    OFFSET(struct nk_ledger, input_count, 0);
-    OFFSET(struct nk_ledger, blocking_count, 4);
-    OFFSET(struct nk_ledger, input_spot, 8);
-    OFFSET(struct nk_ledger, blocking_spot, 16);
-    OFFSET(struct nk_ledger, last_value, 24);
-    OFFSET(struct nk_ledger, tally, 28);
-    OFFSET(struct nk_ledger, last_spill, 32);
-    OFFSET(struct nk_ledger, seeded, 36);
-    OFFSET(struct nk_ledger, seeding_clock, 40);
-    OFFSET(struct nk_keeper, ledger, 0);
+    OFFSET(struct nk_keeper, ledger.input.count, 0);
+    OFFSET(struct nk_keeper, ledger.input.spot.at, 4);
+    OFFSET(struct nk_keeper, ledger.input.spot.turn, 8);
+    OFFSET(struct nk_keeper, ledger.blocking.count, 12);
+    OFFSET(struct nk_keeper, ledger.blocking.spot.at, 16);
+    OFFSET(struct nk_keeper, ledger.blocking.spot.turn, 20);
+    OFFSET(struct nk_keeper, ledger.value, 24);
+    OFFSET(struct nk_keeper, ledger.spill.tally, 28);
+    OFFSET(struct nk_keeper, ledger.spill.clock, 32);
+    OFFSET(struct nk_keeper, ledger.seeding.mark, 36);
+    OFFSET(struct nk_keeper, ledger.seeding.clock, 40);
     OFFSET(struct nk_keeper, clocks, 44);
     OFFSET(struct nk_keeper, firsts, 112);
     OFFSET(struct nk_keeper, seconds, 240);
@@ -296,7 +299,7 @@ static void layout(void) {
     struct nk_keeper k;
     make(&k);
     nk_event(&k, 0, 77, 1, 99);
-    check(k.ledger.last_value == 99, "the value of device 0 is not in last_value");
+    check(k.ledger.value == 99, "the value of device 0 is not in the ledger");
     for (uint32_t d = 0; d < 16; d++) {
         make(&k);
         nk_event(&k, d, 1000 + d, 1, 99);
@@ -308,11 +311,11 @@ static void layout(void) {
     }
     make(&k);
     nk_interrupt(&k, 900, 1, 2, 3);
-    check(k.ledger.tally == 1 && k.ledger.last_spill == 0, "the tally after one interrupt");
+    check(k.ledger.spill.tally == 1 && k.ledger.spill.clock == 0, "the tally after one interrupt");
     nk_interrupt(&k, 1001, 1, 2, 3);
-    check(k.ledger.tally == 0 && k.ledger.last_spill == 1001 && k.ledger.input_count == 6, "the marks after a spill");
-    check(k.ledger.input_spot.at == 112 && k.ledger.input_spot.turn == 16 * 7 % 32, "the input pool's spot after 16 bytes");
-    check(k.ledger.blocking_spot.at == 0 && k.ledger.blocking_spot.turn == 0, "the blocking pool's spot before anything");
+    check(k.ledger.spill.tally == 0 && k.ledger.spill.clock == 1001 && k.ledger.input.count == 6, "the marks after a spill");
+    check(k.ledger.input.spot.at == 112 && k.ledger.input.spot.turn == 16 * 7 % 32, "the input pool's spot after 16 bytes");
+    check(k.ledger.blocking.spot.at == 0 && k.ledger.blocking.spot.turn == 0, "the blocking pool's spot before anything");
     end();
 }
 
@@ -337,7 +340,7 @@ static void yardsticks(void) {
     check(nk_make(&k, start, sizeof start).number == NK_DONE, "a keeper is not made");
     plain_chacha(k.generator, out);
     check(memcmp(out, block, 64) == 0, "the plain ChaCha20 block");
-    k.ledger.seeded = 1;
+    k.ledger.seeding.mark = 1;
     struct nk_answer a = nk_read(&k, 0, out, 64);
     check(a.number == NK_DONE && a.delivered == 64 && a.blocks == 2, "a read of 64 bytes");
     check(memcmp(out, block, 64) == 0, "the keeper's first block is not the RFC's");
@@ -386,8 +389,8 @@ static void refusals(void) {
             static const size_t lens[] = {1, 2, 7, 8, 9, 128, 129, 4096};
             for (size_t i = 0; i < sizeof lens / sizeof *lens; i++) {
                 k = ready;
-                k.ledger.blocking_count = blocking;
-                k.ledger.input_count = input;
+                k.ledger.blocking.count = blocking;
+                k.ledger.input.count = input;
                 struct nk_answer a = try(&k, blocking_read_of(lens[i]));
                 int blocks = blocking < 64 && input < 512;
                 check(a.number == (blocks ? NK_WOULD_BLOCK : NK_DONE), "counts %u and %u, blocking read of %zu: %u", input,
@@ -403,13 +406,13 @@ static void refusals(void) {
     check(number_of(fresh, read_of(4, 0)) == NK_UNSEEDED, "a read of a fresh keeper");
     for (size_t i = 0; i < sizeof marks / sizeof *marks; i++) {
         k = ready;
-        k.ledger.seeded = marks[i];
+        k.ledger.seeding.mark = marks[i];
         check(number_of(k, read_of(1, 5000)) == NK_UNSEEDED, "a read with the mark %u", marks[i]);
         check(number_of(k, read_of(4096, 400000)) == NK_UNSEEDED, "a long read with the mark %u, a reseed overdue", marks[i]);
         check(number_of(k, read_of(0, 5000)) == NK_DONE, "a read of 0 with the mark %u", marks[i]);
         check(number_of(k, read_of(4097, 5000)) == NK_TOO_LONG, "a read of 4,097 with the mark %u", marks[i]);
         struct nk_answer a = try(&k, seed_of(32, 1, 6000));
-        check(a.number == NK_DONE && k.ledger.seeded == 1 && k.ledger.seeding_clock == 6000, "the mark %u is not seeded by a seed",
+        check(a.number == NK_DONE && k.ledger.seeding.mark == 1 && k.ledger.seeding.clock == 6000, "the mark %u is not seeded by a seed",
             marks[i]);
     }
     check(number_of(ready, read_of(4, 5000)) == NK_DONE, "a read of a seeded keeper");
@@ -451,7 +454,7 @@ static void refusals(void) {
     check(try(&k, event_of(0, 6, 8)).number == NK_REPEATED, "value 8 again");
     check(try(&k, event_of(3, 6, 8)).number == NK_DONE, "value 8 on device 3");
     check(try(&k, event_of(3, 7, 8)).number == NK_DONE, "value 8 on device 3 again");
-    check(try(&k, event_of(3, 7, 9)).number == NK_DONE && k.ledger.last_value == 8, "device 3 leaves the value of device 0");
+    check(try(&k, event_of(3, 7, 9)).number == NK_DONE && k.ledger.value == 8, "device 3 leaves the value of device 0");
     check(try(&k, event_of(16, 7, 8)).number == NK_NO_SUCH_DEVICE, "device 16");
     check(try(&k, event_of(0, 7, 8)).number == NK_REPEATED, "value 8 once more");
     check(try(&k, event_of(0, 7, 0)).number == NK_DONE, "value 0 after 8");
@@ -501,7 +504,7 @@ static void out_of_range(void) {
     for (unsigned unseeded = 0; unseeded < 2; unseeded++)
         for (unsigned way = 0; way < DAMAGES; way++) {
             k = ready;
-            k.ledger.seeded = !unseeded;
+            k.ledger.seeding.mark = !unseeded;
             check(damage(&k, way), "there is no damage %u", way);
             struct nk_keeper damaged = k;
             for (size_t i = 0; i < sizeof at_damage / sizeof *at_damage; i++) {
@@ -542,8 +545,8 @@ static void out_of_range(void) {
     check((a).number == (n) && (a).delivered == (d) && (a).blocks == (b) && (a).compressions == (c), \
         "line %d: answered %u %u %u %u", __LINE__, (a).number, (a).delivered, (a).blocks, (a).compressions)
 #define COUNTS(k, i, b)                                                      \
-    check((k).ledger.input_count == (i) && (k).ledger.blocking_count == (b), \
-        "line %d: counts %u %u", __LINE__, (k).ledger.input_count, (k).ledger.blocking_count)
+    check((k).ledger.input.count == (i) && (k).ledger.blocking.count == (b), \
+        "line %d: counts %u %u", __LINE__, (k).ledger.input.count, (k).ledger.blocking.count)
 
 static void worked_cases(void) {
     begin("worked cases, by their numbers");
@@ -558,12 +561,12 @@ static void worked_cases(void) {
     a = try(&k, seed_of(22, 170, 7));
     ANSWERED(a, NK_DONE, 0, 0, 0);
     COUNTS(k, 1020, 0);
-    check(k.ledger.seeded == 0, "170 bits seed");
+    check(k.ledger.seeding.mark == 0, "170 bits seed");
     make(&k);
     a = try(&k, seed_of(22, 171, 7));
     ANSWERED(a, NK_DONE, 0, 0, 16);
     COUNTS(k, 2, 0);
-    check(k.ledger.seeded == 1 && k.ledger.seeding_clock == 7, "171 bits do not seed");
+    check(k.ledger.seeding.mark == 1 && k.ledger.seeding.clock == 7, "171 bits do not seed");
     make(&k);
     a = try(&k, seed_of(32, 256, 7));
     ANSWERED(a, NK_DONE, 0, 0, 24);
@@ -596,12 +599,12 @@ static void worked_cases(void) {
     a = try(&k, read_of(32, 300008));
     ANSWERED(a, NK_DONE, 32, 1, 32);
     COUNTS(k, 15872, 0);
-    check(k.ledger.seeding_clock == 300008, "the seeding clock after a reseed");
-    k.ledger.input_count = 1023;
+    check(k.ledger.seeding.clock == 300008, "the seeding clock after a reseed");
+    k.ledger.input.count = 1023;
     a = try(&k, read_of(32, 700000));
     ANSWERED(a, NK_DONE, 32, 1, 0);
-    check(k.ledger.seeding_clock == 300008 && k.ledger.input_count == 1023, "a reseed from 1,023 units");
-    k.ledger.input_count = 1024 + 64;
+    check(k.ledger.seeding.clock == 300008 && k.ledger.input.count == 1023, "a reseed from 1,023 units");
+    k.ledger.input.count = 1024 + 64;
     a = try(&k, read_of(32, 700000));
     ANSWERED(a, NK_DONE, 32, 1, 16);
     COUNTS(k, 0, 0);
@@ -610,15 +613,15 @@ static void worked_cases(void) {
     make(&k);
     for (uint32_t i = 1; i <= 63; i++) {
         a = try(&k, interrupt_at(i == 5 ? 0xffffff00u : i == 6 ? 0x80000000u : 1000));
-        check(k.ledger.tally == i && k.ledger.input_count == 0, "interrupt %u spilt", i);
+        check(k.ledger.spill.tally == i && k.ledger.input.count == 0, "interrupt %u spilt", i);
     }
     a = try(&k, interrupt_at(1000));
-    check(k.ledger.tally == 0 && k.ledger.last_spill == 1000, "interrupt 64 did not spill");
+    check(k.ledger.spill.tally == 0 && k.ledger.spill.clock == 1000, "interrupt 64 did not spill");
     COUNTS(k, 6, 0);
     a = try(&k, interrupt_at(2000));
-    check(k.ledger.tally == 1, "1,000 ticks spill");
+    check(k.ledger.spill.tally == 1, "1,000 ticks spill");
     a = try(&k, interrupt_at(2001));
-    check(k.ledger.tally == 0 && k.ledger.last_spill == 2001, "1,001 ticks do not spill");
+    check(k.ledger.spill.tally == 0 && k.ledger.spill.clock == 2001, "1,001 ticks do not spill");
 
     /* the estimate, by a device that was still before: 0, 0, 1, 1, 2, then 10, 11, 11 */
     static const struct { uint32_t clock, bits; } estimates[] = {
@@ -634,34 +637,34 @@ static void worked_cases(void) {
         const struct call credits[] = {seed_of(1, 1, 50), interrupt_at(2000), event_of(4, 2, 1)};
         for (size_t i = 0; i < sizeof credits / sizeof *credits; i++) {
             make(&k);
-            k.ledger.input_count = count;
+            k.ledger.input.count = count;
             a = try(&k, credits[i]);
             ANSWERED(a, NK_DONE, 0, 0, count == 1019 ? 16 : 0);
             COUNTS(k, count == 1019 ? 0 : 1023, 0);
-            check(k.ledger.seeded == (count == 1019), "1 bit onto %u units by %s seeds, or not", count, names[credits[i].kind]);
+            check(k.ledger.seeding.mark == (count == 1019), "1 bit onto %u units by %s seeds, or not", count, names[credits[i].kind]);
         }
     }
     make(&k);
-    k.ledger.input_count = 32768;
+    k.ledger.input.count = 32768;
     a = try(&k, seed_of(16, 0, 50));
     ANSWERED(a, NK_DONE, 0, 0, 0);
-    check(k.ledger.seeded == 0 && k.ledger.input_count == 32768, "a credit of 0 bits onto a full pool");
+    check(k.ledger.seeding.mark == 0 && k.ledger.input.count == 32768, "a credit of 0 bits onto a full pool");
 
     /* crediting near the top: turns go on up to two below the size, and a count never passes it */
     for (uint32_t count = 32752; count <= 32768; count++)
         for (uint32_t bits = 1024; bits <= 32768; bits += 1024) {
             k = seeded;
-            k.ledger.input_count = count;
+            k.ledger.input.count = count;
             a = try(&k, seed_of(4096, bits, 7));
-            check(k.ledger.input_count >= count && k.ledger.input_count <= 32768, "%u bits onto %u", bits, count);
+            check(k.ledger.input.count >= count && k.ledger.input.count <= 32768, "%u bits onto %u", bits, count);
         }
     k = seeded;
-    k.ledger.input_count = 32764;
+    k.ledger.input.count = 32764;
     a = try(&k, seed_of(4096, 2048, 7));
     COUNTS(k, 32765, 0);
     a = try(&k, seed_of(4096, 2048, 7));
     COUNTS(k, 32766, 0);
-    k.ledger.input_count = 32764;
+    k.ledger.input.count = 32764;
     a = try(&k, seed_of(4096, 4096, 7));
     COUNTS(k, 32766, 0);
 
@@ -684,8 +687,8 @@ static void header_says(void) {
 
     begin("the most work of one call is reached");
     struct nk_keeper full = ready;
-    full.ledger.input_count = 32768;
-    full.ledger.blocking_count = 8192;
+    full.ledger.input.count = 32768;
+    full.ledger.blocking.count = 8192;
     static const struct call most[] = {
         {.kind = EVENT, .device = 3, .now = 9000, .value = 1},
         {.kind = INTERRUPT, .now = 9000},
@@ -697,7 +700,7 @@ static void header_says(void) {
     };
     for (size_t i = 0; i < sizeof most / sizeof *most; i++) {
         k = full;
-        k.ledger.seeded = is_read(most[i].kind);
+        k.ledger.seeding.mark = is_read(most[i].kind);
         a = try(&k, most[i]);
         ANSWERED(a, NK_DONE, most[i].kind == READ ? 4096 : most[i].kind == BLOCKING_READ ? 128 : 0, most_work[most[i].kind].blocks,
             most_work[most[i].kind].compressions);
@@ -712,26 +715,26 @@ static void header_says(void) {
         for (size_t i = 0; i < sizeof gaps / sizeof *gaps; i++) {
             uint32_t now = seeded_at[s] + gaps[i].gap;
             k = ready;
-            k.ledger.seeding_clock = seeded_at[s];
+            k.ledger.seeding.clock = seeded_at[s];
             a = try(&k, read_of(32, now));
             check((a.compressions > 0) == gaps[i].due, "a read %u ticks after a seeding at %u: %u compressions", gaps[i].gap, seeded_at[s],
                 a.compressions);
-            check(k.ledger.seeding_clock == (gaps[i].due ? now : seeded_at[s]), "the seeding clock after it");
+            check(k.ledger.seeding.clock == (gaps[i].due ? now : seeded_at[s]), "the seeding clock after it");
 
             k = ready;
-            k.ledger.last_spill = seeded_at[s];
+            k.ledger.spill.clock = seeded_at[s];
             int timed = gaps[i].gap > 1000 && gaps[i].gap < 0x80000000;
             for (uint32_t n = 1; n < 64 && !timed; n++) {
                 a = try(&k, interrupt_at(now));
-                check(k.ledger.tally == n, "interrupt %u, %u ticks after a spill, spills", n, gaps[i].gap);
+                check(k.ledger.spill.tally == n, "interrupt %u, %u ticks after a spill, spills", n, gaps[i].gap);
             }
             a = try(&k, interrupt_at(now));
-            check(k.ledger.tally == 0 && k.ledger.last_spill == now, "interrupt %d, %u ticks after a spill, does not spill", timed ? 1 : 64,
-                gaps[i].gap);
+            check(k.ledger.spill.tally == 0 && k.ledger.spill.clock == now, "interrupt %d, %u ticks after a spill, does not spill",
+                timed ? 1 : 64, gaps[i].gap);
             a = try(&k, interrupt_at(now + 1000));
-            check(k.ledger.tally == 1, "1,000 ticks after that spill");
+            check(k.ledger.spill.tally == 1, "1,000 ticks after that spill");
             a = try(&k, interrupt_at(now + 1001));
-            check(k.ledger.tally == 0, "1,001 ticks after that spill");
+            check(k.ledger.spill.tally == 0, "1,001 ticks after that spill");
         }
     end();
 
@@ -762,9 +765,9 @@ static void header_says(void) {
         uint32_t last = UINT32_MAX;
         for (uint32_t count = 0; count <= 32768; count += 512) {
             k = ready;
-            k.ledger.input_count = count;
+            k.ledger.input.count = count;
             a = try(&k, seed_of(4096, bits, 6000));
-            uint32_t added = k.ledger.input_count - count;
+            uint32_t added = k.ledger.input.count - count;
             check(added <= 6 * bits && added <= last, "%u bits onto %u: %u added", bits, count, added);
             last = added;
         }
@@ -796,9 +799,9 @@ static void lengths(void) {
         static const uint32_t blocking[] = {0, 63, 64, 1000, 4096, 8192};
         for (size_t i = 0; i < sizeof blocking / sizeof *blocking; i++) {
             k = ready;
-            k.ledger.blocking_count = blocking[i];
-            if (len % 3 == 1) k.ledger.input_count = 512 + (uint32_t)len;
-            if (len % 3 == 2 && i > 1) k.ledger.input_count = 511;
+            k.ledger.blocking.count = blocking[i];
+            if (len % 3 == 1) k.ledger.input.count = 512 + (uint32_t)len;
+            if (len % 3 == 2 && i > 1) k.ledger.input.count = 511;
             struct nk_answer a = try(&k, blocking_read_of(len));
             check(a.number == (len > 4096 ? NK_TOO_LONG : NK_DONE) && a.delivered <= len,
                 "a blocking read of %zu: %u, %u delivered", len, a.number, a.delivered);
@@ -812,7 +815,7 @@ static void lengths(void) {
     for (size_t len = 0; len <= 4097; len = next_length(len)) {
         k = ready;
         check(try(&k, write_of(len)).number == (len > 4096 ? NK_TOO_LONG : NK_DONE), "a write of %zu", len);
-        check(k.ledger.input_count == ready.ledger.input_count, "a write of %zu is credited", len);
+        check(k.ledger.input.count == ready.ledger.input.count, "a write of %zu is credited", len);
         make(&k);
         check(try(&k, seed_of(len, 8 * (uint32_t)len, 50)).number == (len > 4096 ? NK_TOO_LONG : NK_DONE), "a seed of %zu", len);
         make(&k);
@@ -868,8 +871,8 @@ static void random_calls(uint64_t seed) {
         c.value = below(3) ? below(4) : (uint32_t)chance();
         switch (c.kind) {
         case EVENT: c.now = below(2) ? k.clocks[c.device & 15] + below(6000) : random_now(k.clocks[c.device & 15], 2048); break;
-        case INTERRUPT: c.now = random_now(k.ledger.last_spill, 1000); break;
-        default: c.now = random_now(k.ledger.seeding_clock, 300000);
+        case INTERRUPT: c.now = random_now(k.ledger.spill.clock, 1000); break;
+        default: c.now = random_now(k.ledger.seeding.clock, 300000);
         }
         c.credit = below(4) ? (uint32_t)(c.len * 8) / (1 + below(30)) : (uint32_t)(c.len * 8) + below(2);
         struct nk_answer a = try(&k, c);

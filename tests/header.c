@@ -66,7 +66,7 @@ static void read_only(void) {
             struct nk_keeper before;
             mprotect(k, PAGE, PROT_READ | PROT_WRITE);
             check(nk_make(k, bytes, NK_START_LENGTH).number == NK_DONE, "a keeper is not made");
-            if (damaged) k->ledger.tally = 64;
+            if (damaged) k->ledger.spill.tally = 64;
             memcpy(&before, k, sizeof before);
             mprotect(k, PAGE, PROT_READ);
             volatile int faulted = sigsetjmp(back, 1);

@@ -25,6 +25,6 @@ extern "C" unsigned faults_from_cxx() {
     expect(nk_seed(&k, 7, seed, sizeof seed, 4096), NK_DONE, 0, 0, 32);
     expect(nk_read(&k, 7, room, sizeof room), NK_DONE, 64, 2, 0);
     expect(nk_blocking_read(&k, room, 16), NK_DONE, 12, 0, 20);
-    if (k.ledger.input_count != 16896 || k.ledger.seeding_clock != 7 || k.ledger.tally != 1) faults++;
+    if (k.ledger.input.count != 16896 || k.ledger.seeding.clock != 7 || k.ledger.spill.tally != 1) faults++;
     return faults;
 }

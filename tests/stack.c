@@ -29,24 +29,24 @@ static void empty(void) { answer = do_nothing(); }
 static void make(void) { answer = nk_make(&keeper, bytes, 48); }
 static void make_refused(void) { answer = nk_make(&keeper, bytes, 47); }
 static void event(void) { answer = nk_event(&keeper, 3, 9000, 1, 2); }
-static void event_seeds(void) { keeper.ledger.seeded = 0; answer = nk_event(&keeper, 0, 9000, 1, 2); }
+static void event_seeds(void) { keeper.ledger.seeding.mark = 0; answer = nk_event(&keeper, 0, 9000, 1, 2); }
 static void event_refused(void) { answer = nk_event(&keeper, 16, 9000, 1, 2); }
 static void interrupt(void) { answer = nk_interrupt(&keeper, 100, 1, 2, 3); }
 static void interrupt_spills(void) { answer = nk_interrupt(&keeper, 9000, 1, 2, 3); }
-static void interrupt_seeds(void) { keeper.ledger.seeded = 0; answer = nk_interrupt(&keeper, 9000, 1, 2, 3); }
+static void interrupt_seeds(void) { keeper.ledger.seeding.mark = 0; answer = nk_interrupt(&keeper, 9000, 1, 2, 3); }
 static void write_some(void) { answer = nk_write(&keeper, bytes, 4096); }
 static void write_refused(void) { answer = nk_write(&keeper, bytes, 4097); }
 static void seed(void) { answer = nk_seed(&keeper, 9000, bytes, 4096, 32768); }
-static void seed_seeds(void) { keeper.ledger.seeded = 0; answer = nk_seed(&keeper, 9000, bytes, 4096, 32768); }
+static void seed_seeds(void) { keeper.ledger.seeding.mark = 0; answer = nk_seed(&keeper, 9000, bytes, 4096, 32768); }
 static void read_short(void) { answer = nk_read(&keeper, 9000, bytes, 1); }
 static void read_long(void) { answer = nk_read(&keeper, 9000, bytes, 4096); }
 static void read_reseeds(void) { answer = nk_read(&keeper, 900000, bytes, 97); }
-static void read_refused(void) { keeper.ledger.seeded = 0; answer = nk_read(&keeper, 900000, bytes, 97); }
+static void read_refused(void) { keeper.ledger.seeding.mark = 0; answer = nk_read(&keeper, 900000, bytes, 97); }
 static void blocking_short(void) { answer = nk_blocking_read(&keeper, bytes, 1); }
-static void blocking_transfers(void) { keeper.ledger.blocking_count = 0; answer = nk_blocking_read(&keeper, bytes, 128); }
+static void blocking_transfers(void) { keeper.ledger.blocking.count = 0; answer = nk_blocking_read(&keeper, bytes, 128); }
 static void blocking_long(void) { answer = nk_blocking_read(&keeper, bytes, 4096); }
 static void blocking_refused(void) {
-    keeper.ledger.blocking_count = keeper.ledger.input_count = 0;
+    keeper.ledger.blocking.count = keeper.ledger.input.count = 0;
     answer = nk_blocking_read(&keeper, bytes, 128);
 }
 static void damaged(void) { keeper.seconds[15] = INT64_MAX; answer = nk_blocking_read(&keeper, bytes, 128); }
@@ -88,10 +88,10 @@ static void ready(void) {
         puts("FAILED: a keeper is not made");
         exit(1);
     }
-    keeper.ledger.input_count = 30000;
-    keeper.ledger.blocking_count = 4000;
-    keeper.ledger.seeded = 1;
-    keeper.ledger.seeding_clock = 5000;
+    keeper.ledger.input.count = 30000;
+    keeper.ledger.blocking.count = 4000;
+    keeper.ledger.seeding.mark = 1;
+    keeper.ledger.seeding.clock = 5000;
 }
 
 static size_t used_over(void (*call)(void), uint8_t pattern) {

@@ -317,9 +317,9 @@ static void hits_between_turns(void) {
         unsigned made = makes;
         uint8_t *byte = (uint8_t *)k + below(sizeof *k);
         switch (i % 12) {
-        case 0: k->ledger.seeded ^= 1; break; /* a mark that turns into a yes */
-        case 3: k->ledger.input_count ^= 0x4000; break; /* credit that comes from nowhere */
-        case 6: k->ledger.blocking_count ^= 0x1000; break;
+        case 0: k->ledger.seeding.mark ^= 1; break; /* a mark that turns into a yes */
+        case 3: k->ledger.input.count ^= 0x4000; break; /* credit that comes from nowhere */
+        case 6: k->ledger.blocking.count ^= 0x1000; break;
         default: *byte ^= (uint8_t)(1u << below(8));
         }
         may_make = true;
@@ -701,11 +701,11 @@ static void nothing_behind(void) {
         /* a start without a seed, up to the event that seeds */
         power_on();
         check(terminal_start(&terminal), "no start");
-        for (unsigned n = 0; n < 100 && terminal.keeper.ledger.seeded != 1; n++) {
+        for (unsigned n = 0; n < 100 && terminal.keeper.ledger.seeding.mark != 1; n++) {
             step();
             leaves_nothing("an event", event_it);
         }
-        check(terminal.keeper.ledger.seeded == 1, "no event seeds");
+        check(terminal.keeper.ledger.seeding.mark == 1, "no event seeds");
 
         /* the keeper by itself does leave its bytes there, and those that changed its key, as nk.h says: without this the group would
          * show nothing */

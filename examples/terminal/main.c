@@ -140,7 +140,7 @@ int main(void) {
     live(30);
 
     say("the record is damaged while it runs");
-    terminal.keeper.ledger.tally = 1000;
+    terminal.keeper.ledger.spill.tally = 1000;
     need(session_key() == 1, "no key at the first turn after it");
 
     say("ten thousand bytes go in parts; device 16 is refused, and nothing is restarted for it");

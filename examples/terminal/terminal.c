@@ -130,7 +130,7 @@ static void take_interrupts(struct terminal *t) {
 }
 
 static bool seeded(struct terminal *t) {
-    return ready(t) && t->keeper.ledger.seeded == 1;
+    return ready(t) && t->keeper.ledger.seeding.mark == 1;
 }
 
 static void gather_noise(struct terminal *t) {
