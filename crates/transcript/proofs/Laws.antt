@@ -1,16 +1,17 @@
 -- What the proofs of the transcript's lines share.
 use mathlib.Core.Path.{_≡_, refl, ap, _∙_}
-use mathlib.Core.Bool.{Bool, true, false, cond, not}
+use mathlib.Core.Bool.{Bool, true, false, not}
 use mathlib.Core.List.{List, [], _∷_, _++_}
 use Prim.Native.Nat.{ℕ, zero, suc, _+_, _-_, _*_, _/_, _%_, _^_, _≤_, _<_}
 use native.Mathlib.Nat.{add-zero, zero-add, pow-suc}
 use native.Mathlib.Omega.{arith}
 use borrow.Author.Tests.{lt-ltb, le-ltb, le-leb, lt-leb}
-use lib.ListN.{length, set, drop, getD, length-append, length-set, drop-of-length-le}
+use lib.ListN.{length, set, drop, getD, length-append, length-set, length-drop, drop-of-length-le}
 use lib.Seq.{sets, sets-eq, length-sets, drop-cons}
-use lib.Dec.{T, ltb, leb, ltb→lt, nltb→le}
+use lib.Dec.{T, ltb, leb, ltb→lt, nltb→le, leb→le}
 use Rattle.transcript.specs.Text.{Put, digits, wordOf, glyphOf, hexOf, tailOf}
-use Rattle.transcript.specs.Lines.{Written, lineOf, lineIn, atStart, either, endOf, endIn}
+use Rattle.transcript.specs.Lines.{Written, lineOf, lineIn, atStart, textIn, longestLine, longestEnd, endOf, endIn}
+use Rattle.ledger.specs.Choice.{pick}
 use Rattle.keeper.specs.declared.Answer.{Answer}
 
 impossible : 0 < 0 → ⊥
@@ -43,7 +44,8 @@ pub same-size : (a b t : List ℕ) (at n : ℕ) → Put a b at t n → length b 
 same-size a b t at n p = ap length (p .stored) ∙ length-sets a at t
 
 -- decimal digits
-either-short : (b : Bool) (xs ys : List ℕ) (m : ℕ) → length xs ≤ m → length ys ≤ m → length (cond b xs ys) ≤ m
+either-short : (b : Bool) (xs ys : List ℕ) (m : ℕ) → length xs ≤ m → length ys ≤ m → length (pick b xs ys) ≤ m
+unfolding pick
 either-short true xs ys m h k = h
 either-short false xs ys m h k = k
 
@@ -54,12 +56,12 @@ short (suc k) n =
     let h = short k (n / 10) in either-short (ltb n 10) _ _ (suc k) (omega arith) (rw length-append (omega arith))
 
 pub digits-last : (m n : ℕ) → 0 < m → n < 10 → digits m n ≡ (48 + n) ∷ []
-unfolding digits
+unfolding digits pick
 digits-last zero n h k = elim (impossible h) as (λ _. [] ≡ (48 + n) ∷ []) [ ]
 digits-last (suc m) n h k = rw lt-ltb
 
 pub digits-more : (m n : ℕ) → 0 < m → 10 ≤ n → digits m n ≡ digits (m - 1) (n / 10) ++ ((48 + n % 10) ∷ [])
-unfolding digits
+unfolding digits pick
 digits-more zero n h k = elim (impossible h) as (λ _. [] ≡ digits (0 - 1) (n / 10) ++ ((48 + n % 10) ∷ [])) [ ]
 digits-more (suc m) n h k = let e : suc m - 1 ≡ m = omega arith in rw (le-ltb, e)
 
@@ -72,7 +74,8 @@ fewer (suc (suc m)) n h k =
     rw e (omega arith, omega arith)
 
 -- hexadecimal digits: a letter is 39 above where the digits would go on
-glyph-of : (t : Bool) (d : ℕ) → (T t → d < 10) → (T (not t) → 10 ≤ d) → d < 16 → 48 + d + 39 * ((d + 6) / 16) ≡ cond t (48 + d) (87 + d)
+glyph-of : (t : Bool) (d : ℕ) → (T t → d < 10) → (T (not t) → 10 ≤ d) → d < 16 → 48 + d + 39 * ((d + 6) / 16) ≡ pick t (48 + d) (87 + d)
+unfolding pick
 glyph-of true d p q h = let k = p tt in omega arith
 glyph-of false d p q h = let k = q tt in omega arith
 
@@ -130,30 +133,30 @@ put-none a bytes at h = rw tail-none (none a at)
 pub put-some : (a b bytes : List ℕ) (at n : ℕ) → (length bytes ≡ 0 → ⊥) → Put (set a at 32) b (at + 1) (hexOf bytes) n → Put a b at (tailOf bytes) n
 put-some a b bytes at n h p = rw tail-some (then _ _ _ _ _ _ _ _ (one a at 32) p)
 
--- a line that is whole, and one that its room may not hold
-pub fits : (room b : List ℕ) (a : Answer) (input blocking : ℕ) (bytes : List ℕ) (n : ℕ) → 67 + 2 * length bytes ≤ length room → n ≤ length room
-    → Put room b 0 (lineOf a input blocking bytes) n → (record { count = n; room = b }) ≡ lineIn room a input blocking bytes
-unfolding lineIn atStart
-fits room b a input blocking bytes n h k p =
-    let e : n ≡ length (lineOf a input blocking bytes) = let q = p .place in omega arith in
-    let s : b ≡ lineOf a input blocking bytes ++ drop (length (lineOf a input blocking bytes)) room = start room b _ n (omega arith) p in
+-- a text in a room that holds the longest of its kind, and one in a shorter room
+pub fits : (most : ℕ) (room b t : List ℕ) (n : ℕ) → most ≤ length room → length t ≤ most → Put room b 0 t n → (record { count = n; room = b }) ≡ textIn most room t
+unfolding pick atStart
+fits most room b t n h k p =
+    let e : n ≡ length t = let q = p .place in omega arith in
+    let s = start room b t n (omega arith) p in
     rw le-leb (cc)
 
-pub refuses : (room : List ℕ) (a : Answer) (input blocking : ℕ) (bytes : List ℕ) → length room < 67 + 2 * length bytes
-    → (record { count = 0; room = room }) ≡ lineIn room a input blocking bytes
-unfolding lineIn
-refuses room a input blocking bytes h = rw lt-leb
+pub refuses : (most : ℕ) (room t : List ℕ) → length room < most → (record { count = 0; room = room }) ≡ textIn most room t
+unfolding pick
+refuses most room t h = rw lt-leb
 
-pub fits-end : (room b : List ℕ) (k n : ℕ) → 15 ≤ length room → n ≤ length room → Put room b 0 (endOf k) n → (record { count = n; room = b }) ≡ endIn room k
-unfolding endIn atStart
-fits-end room b k n h m p =
-    let e : n ≡ length (endOf k) = let q = p .place in omega arith in
-    let s : b ≡ endOf k ++ drop (length (endOf k)) room = start room b _ n (omega arith) p in
-    rw le-leb (cc)
+-- what was written lies in the room, and the room has its length
+pick-in : (b : Bool) (most : ℕ) (room t : List ℕ) → (T b → length t ≤ length room)
+    → let w : Written = pick b (atStart room t) (record { count = 0; room = room }) in (w .count ≤ length room) × (length (w .room) ≡ length room)
+unfolding pick atStart
+pick-in true most room t h = let k = h tt in (k, simp (length-append, length-drop) (omega arith))
+pick-in false most room t h = (omega arith, refl)
 
-pub refuses-end : (room : List ℕ) (k : ℕ) → length room < 15 → (record { count = 0; room = room }) ≡ endIn room k
-unfolding endIn
-refuses-end room k h = rw lt-leb
+pub in-room : (most : ℕ) (room b t : List ℕ) (n : ℕ) → length t ≤ most → (record { count = n; room = b }) ≡ textIn most room t → (n ≤ length room) × (length b ≡ length room)
+in-room most room b t n k h =
+    let p : n ≡ (textIn most room t) .count = ap (λ (w : Written). w .count) h in
+    let q : b ≡ (textIn most room t) .room = ap (λ (w : Written). w .room) h in
+    rw (p, q) (pick-in (leb most (length room)) most room t (λ x. let l = leb→le most (length room) x in omega arith))
 
 -- the letters of `end` and a space
 pub letters : (a : List ℕ) → Put a (set (set (set (set a 0 101) 1 110) 2 100) 3 32) 0 (101 ∷ 110 ∷ 100 ∷ 32 ∷ []) 4
@@ -163,7 +166,7 @@ pub letters-size : (a : List ℕ) → length (set (set (set (set a 0 101) 1 110)
 letters-size a = simp length-set
 
 -- no line is longer than what is asked of its room
-pub longest : (a : Answer) (input blocking : ℕ) (bytes : List ℕ) → length (lineOf a input blocking bytes) ≤ 67 + 2 * length bytes
+pub longest : (a : Answer) (input blocking : ℕ) (bytes : List ℕ) → length (lineOf a input blocking bytes) ≤ longestLine (length bytes)
 unfolding lineOf wordOf
 longest a input blocking bytes =
     let e1 = short 10 (a .number) in
@@ -175,26 +178,21 @@ longest a input blocking bytes =
     let e7 = short-tail bytes in
     simp length-append (omega arith)
 
-pub longest-end : (n : ℕ) → length (endOf n) ≤ 15
+pub longest-end : (n : ℕ) → length (endOf n) ≤ longestEnd
 unfolding endOf
 longest-end n = let e = short 10 n in simp length-append (omega arith)
 
--- what was written lies in the room
-either-in : (b : Bool) (room t : List ℕ) → either b (atStart room t) (record { count = 0; room = room }) .count ≤ length (either b (atStart room t) (record { count = 0; room = room }) .room)
-unfolding atStart
-either-in true room t = rw length-append (omega arith)
-either-in false room t = omega arith
-
-pub end-in-room : (room b : List ℕ) (n c : ℕ) → (record { count = c; room = b }) ≡ endIn room n → c ≤ length b
-unfolding endIn
-end-in-room room b n c h =
-    let p : c ≡ endIn room n .count = ap (λ (w : Written). w .count) h in
-    let q : b ≡ endIn room n .room = ap (λ (w : Written). w .room) h in
-    rw (p, q) (either-in (leb 15 (length room)) room (endOf n))
-
-pub line-in-room : (room b : List ℕ) (a : Answer) (input blocking : ℕ) (bytes : List ℕ) (c : ℕ) → (record { count = c; room = b }) ≡ lineIn room a input blocking bytes → c ≤ length b
+-- .. so for a line and for the last one
+pub line-in : (room b : List ℕ) (a : Answer) (input blocking : ℕ) (bytes : List ℕ) (n : ℕ) → (record { count = n; room = b }) ≡ lineIn room a input blocking bytes
+    → (n ≤ length room) × (length b ≡ length room)
 unfolding lineIn
-line-in-room room b a input blocking bytes c h =
-    let p : c ≡ lineIn room a input blocking bytes .count = ap (λ (w : Written). w .count) h in
-    let q : b ≡ lineIn room a input blocking bytes .room = ap (λ (w : Written). w .room) h in
-    rw (p, q) (either-in (leb (67 + 2 * length bytes) (length room)) room (lineOf a input blocking bytes))
+line-in room b a input blocking bytes n h = in-room _ room b _ n (longest a input blocking bytes) h
+
+pub end-in : (room b : List ℕ) (k n : ℕ) → (record { count = n; room = b }) ≡ endIn room k → (n ≤ length room) × (length b ≡ length room)
+unfolding endIn
+end-in room b k n h = in-room longestEnd room b _ n (longest-end k) h
+
+pub end-in-room : (room b : List ℕ) (k n : ℕ) → (record { count = n; room = b }) ≡ endIn room k → n ≤ length b
+end-in-room room b k n h =
+    let w = end-in room b k n h in
+    omega (arith, w .0, w .1)

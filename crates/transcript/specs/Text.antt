@@ -1,11 +1,11 @@
 -- Numbers and bytes as text, and a text put into a room.
 use Prim.Native.Nat.{ℕ, zero, suc, _+_, _/_, _%_}
 use mathlib.Core.Path.{_≡_}
-use mathlib.Core.Bool.{cond}
 use mathlib.Core.List.{List, [], _∷_, _++_}
 use lib.ListN.{length}
 use lib.Seq.{sets}
 use lib.Dec.{ltb}
+use Rattle.ledger.specs.Choice.{pick}
 
 -- a text stands at a place of a room, all else is as it was, and the next place is after it
 pub record Put (before after : List ℕ) (at : ℕ) (text : List ℕ) (next : ℕ) : Type 0 where
@@ -15,7 +15,7 @@ pub record Put (before after : List ℕ) (at : ℕ) (text : List ℕ) (next : �
 -- n in decimal, with k digits at most
 unfoldable pub digits : ℕ → ℕ → List ℕ
 digits zero n = []
-digits (suc k) n = cond (ltb n 10) ((48 + n) ∷ []) (digits k (n / 10) ++ ((48 + n % 10) ∷ []))
+digits (suc k) n = pick (ltb n 10) ((48 + n) ∷ []) (digits k (n / 10) ++ ((48 + n % 10) ∷ []))
 
 -- a number below 2^32 has ten digits at most
 abbrev pub decimalOf : ℕ → List ℕ
@@ -27,7 +27,7 @@ wordOf n = decimalOf n ++ (32 ∷ [])
 
 -- hexadecimal digits: `0` to `9`, `a` to `f`
 unfoldable pub glyphOf : ℕ → ℕ
-glyphOf d = cond (ltb d 10) (48 + d) (87 + d)
+glyphOf d = pick (ltb d 10) (48 + d) (87 + d)
 
 unfoldable pub hexOf : List ℕ → List ℕ
 hexOf [] = []

@@ -13,6 +13,7 @@
 pub mod lines;
 mod text;
 
+pub use lines::LONGEST_END;
 pub use lines::LONGEST_LINE;
 pub use lines::ending;
 pub use lines::line;

@@ -5,19 +5,24 @@ use crate::text::number;
 use crate::text::tail;
 use crate::text::word;
 use keeper::Answer;
+use ledger::sizes::LONGEST;
 
-// The longest line of 4,096 bytes: 67, and two for each byte.
-pub const LONGEST_LINE: usize = 67 + 2 * 4096;
+// The longest line with no bytes, and with the most bytes, two digits for each; the longest last line. `specs/Lines.antt` names them too.
+const LONGEST_BARE: usize = 67;
+
+pub const LONGEST_LINE: usize = LONGEST_BARE + 2 * LONGEST;
+
+pub const LONGEST_END: usize = 15;
 
 // Writes a line at the start of a room, and answers how many bytes it has: 0, and nothing is written, where the room is
-// not long enough for the longest line with so many bytes, 67 and two for each.
+// not long enough for the longest line with so many bytes.
 pub fn line(answer: Answer, input: u32, blocking: u32, bytes: &[u8], room: &mut [u8]) -> usize
     ensures { λ r. ⌜ (record { count = r; room = now (room .exit) }) ≡ lineIn (now (room .entry)) answer input blocking (now (bytes .entry)) ⌝ }
 {
-    if room.len() < 67 {
+    if room.len() < LONGEST_BARE {
         return 0;
     }
-    if (room.len() - 67) / 2 < bytes.len() {
+    if (room.len() - LONGEST_BARE) / 2 < bytes.len() {
         return 0;
     }
     let a = word(answer.number, room, 0);
@@ -32,11 +37,11 @@ pub fn line(answer: Answer, input: u32, blocking: u32, bytes: &[u8], room: &mut 
 }
 
 // Writes the last line, `end` and a number, at the start of a room, and answers how many bytes it has: 0, and nothing is
-// written, where the room has fewer than 15.
+// written, where the room is shorter than the longest last line.
 pub fn ending(n: u32, room: &mut [u8]) -> usize
     ensures { λ r. ⌜ (record { count = r; room = now (room .exit) }) ≡ endIn (now (room .entry)) n ⌝ }
 {
-    if room.len() < 15 {
+    if room.len() < LONGEST_END {
         return 0;
     }
     room[0] = b'e';

@@ -30,10 +30,14 @@ same-halves f at number a b c d a′ b′ c′ d′ ea eb ec ed = rw (ea, eb, ec
 returns : tie.Need-returns
 unfolding stirred
 returns c =
-    let h = c .before .before in
-    let a = h .before .before .before .before .before .args in
-    let e = same-halves (a .f .now) (a .at) (a .number) _ _ _ _ (a .stamp % 2 ^ 32) (a .stamp / 2 ^ 32) (a .address % 2 ^ 32) (a .address / 2 ^ 32) (h .before .before .before .low .ensures) (h .before .before .high .ensures) (h .before .low2 .ensures) (h .high2 .ensures) in
-    twice fastRound _ _ _ _ e (c .before .fast-round .ensures) (c .fast-round2 .ensures)
+    let at-fast-round : tie.After-fast-round = search in
+    let h : tie.After-high2 = search in
+    let at-low2 : tie.After-low2 = search in
+    let at-high : tie.After-high = search in
+    let at-low : tie.After-low = search in
+    let a : tie.Start = search in
+    let e = same-halves (a .args .f .now) (a .args .at) (a .args .number) _ _ _ _ (a .args .stamp % 2 ^ 32) (a .args .stamp / 2 ^ 32) (a .args .address % 2 ^ 32) (a .args .address / 2 ^ 32) (at-low .low .ensures) (at-high .high .ensures) (at-low2 .low2 .ensures) (h .high2 .ensures) in
+    twice fastRound _ _ _ _ e (at-fast-round .fast-round .ensures) (c .fast-round2 .ensures)
 
 pub stir-spec : {M : Type 1} → statement M
 stir-spec =

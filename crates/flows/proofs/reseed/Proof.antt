@@ -7,8 +7,8 @@ use Rattle.flows.proofs.reseed.Tie as tie
 
 returns : tie.Need-returns
 returns c =
-    let a = c .before .before .before .args in
-    let e = none-out _ (a .t) (record { words = a .ws .now; spot = a .s }) (c .if1 .taken) in
+    let a : tie.Start = search in
+    let e = none-out _ (a .args .t) (record { words = a .args .ws .now; spot = a .args .s }) (c .if1 .taken) in
     (ap (λ (x : Extract). x .pool .words) e, (ap (λ (x : Extract). x .pool .spot) e, onto-none _ _ (ap (λ (x : Extract). x .bytes) (sym e))))
 
 pub reseed-spec : {M : Type 1} → statement M

@@ -7,7 +7,10 @@ use Rattle.flows.proofs.spill.Tie as tie
 
 returns : tie.Need-returns
 unfolding pick
-returns c = rw (c .before .before .before .before .if1 .taken) (c .before .before .mix-words .ensures)
+returns c =
+    let at-mix-words : tie.After-mix-words = search in
+    let then1 : tie.Then1 = search in
+    rw (then1 .if1 .taken) (at-mix-words .mix-words .ensures)
 
 returns-2 : tie.Need-returns-2
 unfolding pick mix

@@ -20,16 +20,16 @@ abbrev μ-loop : tie.MeasureT-loop
 
 loop-again : tie.Need-loop-again Inv-loop μ-loop
 loop-again c =
-    let t = c .before .before in
-    let l = t .before .loop in
-    let a = t .before .before .before .before .args in
-    (simp length-set (l .inv .0), (omega arith, xor-bytes (l .g) (a .bytes .now) _ (l .i) _ (omega arith) (c .word-at .ensures) (l .inv .1 .1)))
+    let t : tie.In-loop Inv-loop μ-loop = search in
+    let l : tie.At-loop Inv-loop μ-loop = search in
+    let a : tie.Start Inv-loop μ-loop = search in
+    (simp length-set (l .loop .inv .0), (omega arith, xor-bytes (l .loop .g) (a .args .bytes .now) _ (l .loop .i) _ (omega arith) (c .word-at .ensures) (l .loop .inv .1 .1)))
 
 returns : tie.Need-returns Inv-loop μ-loop
 returns c =
-    let l = c .before .loop in
-    let a = c .before .before .before .before .args in
-    xor-done (l .g) (a .bytes .now) _ (l .i) (omega arith) (l .inv .1 .1)
+    let l : tie.At-loop Inv-loop μ-loop = search in
+    let a : tie.Start Inv-loop μ-loop = search in
+    xor-done (l .loop .g) (a .args .bytes .now) _ (l .loop .i) (omega arith) (l .loop .inv .1 .1)
 
 pub onto-key-spec : {M : Type 1} → statement M
 onto-key-spec =

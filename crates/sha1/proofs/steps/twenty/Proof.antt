@@ -22,14 +22,16 @@ loop-holds c = (search needs, refl)
 loop-again : tie.Need-loop-again Inv-loop μ-loop
 unfolding run
 loop-again c =
-    let a = c .before .before .before .before .args in
-    let n = c .before .before .before .loop .n in
-    let q : (20 * a .p + n) / 20 ≡ a .p = omega arith in
-    (search needs, rw (add-one, q, getD-drop (20 * a .p) (a .w .now) n 0, c .step .ensures, c .before .before .before .loop .inv .1))
+    let at-loop : tie.At-loop Inv-loop μ-loop = search in
+    let a : tie.Start Inv-loop μ-loop = search in
+    let n = at-loop .loop .n in
+    let q : (20 * a .args .p + n) / 20 ≡ a .args .p = omega arith in
+    (search needs, rw (add-one, q, getD-drop (20 * a .args .p) (a .args .w .now) n 0, c .step .ensures, at-loop .loop .inv .1))
 
 returns : tie.Need-returns Inv-loop μ-loop
 returns c =
-    let e : c .before .loop .n ≡ 20 = omega arith in
+    let at-loop : tie.At-loop Inv-loop μ-loop = search in
+    let e : at-loop .loop .n ≡ 20 = omega arith in
     cc
 
 pub twenty-spec : {M : Type 1} → statement M

@@ -1,86 +1,30 @@
-use mathlib.Core.Path.{_∙_}
 use native.Mathlib.Omega.{arith}
-use denote.Ref.{now}
-use lib.ListN.{length-set}
 use borrow.Author.Needs.{needs}
-use Rattle.transcript.specs.Lines.{lineOf}
-use Rattle.transcript.proofs.Laws.{then, one, fits, refuses}
+use Rattle.transcript.specs.Lines.{lineOf, lineIn}
+use Rattle.transcript.proofs.Laws.{then, one, longest, fits, refuses, line-in}
 use Rattle.transcript.proofs.lines.line.Statement.{statement}
 use Rattle.transcript.proofs.lines.line.Tie as tie
 
 returns : tie.Need-returns
-returns c = refuses _ _ _ _ (now (c .before .before .before .args .bytes)) (omega arith)
+unfolding lineIn
+returns c = refuses _ _ _ (omega arith)
 
 returns-2 : tie.Need-returns-2
-returns-2 c = refuses _ _ _ _ (now (c .before .before .before .before .args .bytes)) (omega arith)
+unfolding lineIn
+returns-2 c = refuses _ _ _ (omega arith)
 
 -- p1 to p7 are where the seven texts of the line were written, in their order
-add-result : tie.Need-add-result
-add-result c =
-    let p7 = c .before .before in
-    let p6 = p7 .before .before .before .before in
-    let p5 = p6 .before .before .before .before in
-    let p4 = p5 .before .before .before .before in
-    let p3 = p4 .before .before .before .before in
-    let p2 = p3 .before .before .before .before in
-    let p1 = p2 .before .before .before .before in
-    omega (
-      arith,
-      p1 .before .before .before .before .before .before .good .1 .1 .1 .1 .0 .0,
-      p7 .tail .ensures .1,
-      p6 .number .ensures .1,
-      p5 .word5 .ensures .1,
-      p4 .word4 .ensures .1,
-      p3 .word3 .ensures .1,
-      p2 .word2 .ensures .1,
-      p1 .word .ensures .1,
-      p7 .tail .kept .1 .0,
-      p6 .number .kept .1 .0,
-      p5 .word5 .kept .1 .0,
-      p4 .word4 .kept .1 .0,
-      p3 .word3 .kept .1 .0,
-      p2 .word2 .kept .1 .0,
-      p1 .word .kept .1 .0,
-    )
-
-same-length : tie.Need-same-length
-same-length c =
-    let p7 = c .before .before in
-    let p6 = p7 .before .before .before .before in
-    let p5 = p6 .before .before .before .before in
-    let p4 = p5 .before .before .before .before in
-    let p3 = p4 .before .before .before .before in
-    let p2 = p3 .before .before .before .before in
-    let p1 = p2 .before .before .before .before in
-    simp length-set (p7 .tail .kept .1 .0 ∙ p6 .number .kept .1 .0 ∙ p5 .word5 .kept .1 .0 ∙ p4 .word4 .kept .1 .0 ∙ p3 .word3 .kept .1 .0 ∙ p2 .word2 .kept .1 .0 ∙ p1 .word .kept .1 .0)
-
 returns-3 : tie.Need-returns-3
-unfolding lineOf
+unfolding lineOf lineIn
 returns-3 c =
-    let p7 = c .before .before in
-    let p6 = p7 .before .before .before .before in
-    let p5 = p6 .before .before .before .before in
-    let p4 = p5 .before .before .before .before in
-    let p3 = p4 .before .before .before .before in
-    let p2 = p3 .before .before .before .before in
-    let p1 = p2 .before .before .before .before in
-    fits _ _ _ _ _ _ _ (omega arith) (omega (
-      arith,
-      p7 .tail .ensures .1,
-      p6 .number .ensures .1,
-      p5 .word5 .ensures .1,
-      p4 .word4 .ensures .1,
-      p3 .word3 .ensures .1,
-      p2 .word2 .ensures .1,
-      p1 .word .ensures .1,
-      p7 .tail .kept .1 .0,
-      p6 .number .kept .1 .0,
-      p5 .word5 .kept .1 .0,
-      p4 .word4 .kept .1 .0,
-      p3 .word3 .kept .1 .0,
-      p2 .word2 .kept .1 .0,
-      p1 .word .kept .1 .0,
-    ))
+    let p7 : tie.After-tail = search in
+    let p6 : tie.After-number = search in
+    let p5 : tie.After-word5 = search in
+    let p4 : tie.After-word4 = search in
+    let p3 : tie.After-word3 = search in
+    let p2 : tie.After-word2 = search in
+    let p1 : tie.After-word = search in
+    fits _ _ _ _ _ (omega arith) (longest _ _ _ _)
     (then _ _ _ _ _ _ _ _ (p1 .word .ensures .0)
     (then _ _ _ _ _ _ _ _ (p2 .word2 .ensures .0)
     (then _ _ _ _ _ _ _ _ (p3 .word3 .ensures .0)
@@ -88,6 +32,16 @@ returns-3 c =
     (then _ _ _ _ _ _ _ _ (p5 .word5 .ensures .0)
     (then _ _ _ _ _ _ _ _ (p6 .number .ensures .0)
     (then _ _ _ _ _ _ _ _ (p7 .tail .ensures .0) (one _ _ _))))))))
+
+same-length : tie.Need-same-length
+same-length c = line-in _ _ _ _ _ _ _ (returns-3 c) .1
+
+add-result : tie.Need-add-result
+add-result c =
+    let w = line-in _ _ _ _ _ _ _ (returns-3 c) in
+    let c : tie.After-word = search in
+    let start : tie.Start = search in
+    omega (arith, w .0, start .good .1 .1 .1 .1 .0 .0)
 
 pub line-spec : {M : Type 1} → statement M
 line-spec =

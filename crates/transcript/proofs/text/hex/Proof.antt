@@ -18,32 +18,34 @@ abbrev μ-loop : tie.MeasureT-loop
 μ-loop bytes room₀ at i₀ place₀ room i place = length bytes - i
 
 glyph-requires : tie.Need-glyph-requires Inv-loop μ-loop
-glyph-requires c κs = omega (arith, c .shared-slice-known2 .given (c .before .before .loop .i))
-
-slice-write-room-2 : tie.Need-slice-write-room-2 Inv-loop μ-loop
-slice-write-room-2 c = rw length-set (omega arith)
+glyph-requires c κs =
+    let at-loop : tie.At-loop Inv-loop μ-loop = search in
+    omega (arith, c .shared-slice-known2 .given (at-loop .loop .i))
 
 loop-again : tie.Need-loop-again Inv-loop μ-loop
 loop-again c =
-    let l = c .before .before .before .before in (
+    let at-glyph : tie.After-glyph Inv-loop μ-loop = search in
+    let in-loop : tie.In-loop Inv-loop μ-loop = search in
+    let l : tie.At-loop Inv-loop μ-loop = search in (
       omega arith,
       (
         omega arith,
         (
           simp length-set (l .loop .inv .1 .1 .0),
-          hex-step _ _ _ _ _ _ _ (c .before .before .before .loop-test .taken) (c .before .glyph .ensures) (c .glyph2 .ensures) (l .loop .inv .1 .1 .1),
+          hex-step _ _ _ _ _ _ _ (in-loop .loop-test .taken) (at-glyph .glyph .ensures) (c .glyph2 .ensures) (l .loop .inv .1 .1 .1),
         ),
       ),
     )
 
 returns : tie.Need-returns Inv-loop μ-loop
 returns c =
-    let l = c .before .loop .inv in
-    let e : length (hexOf (c .before .before .before .before .args .bytes .now)) ≡ 2 * length (c .before .before .before .before .args .bytes .now) = length-hex _ in
-    record { place = omega arith; stored = hex-done _ _ _ _ _ (c .loop-test .left) (l .1 .1 .1) }
+    let l : tie.At-loop Inv-loop μ-loop = search in
+    let start : tie.Start Inv-loop μ-loop = search in
+    let e : length (hexOf (start .args .bytes .now)) ≡ 2 * length (start .args .bytes .now) = length-hex _ in
+    record { place = omega arith; stored = hex-done _ _ _ _ _ (c .loop-test .left) (l .loop .inv .1 .1 .1) }
 
 pub hex-spec : {M : Type 1} → statement M
 hex-spec =
     tie.close
     (tie.spec Inv-loop μ-loop (λ c. search needs) (λ c. search needs) glyph-requires (λ c. search needs) (λ c κs. search needs) (λ c. search needs)
-    slice-write-room-2 (λ c. search needs) (λ c. search needs) (λ c. search needs) loop-again (λ c. search needs) returns)
+    (λ c. rw length-set (omega arith)) (λ c. search needs) (λ c. search needs) (λ c. search needs) loop-again (λ c. search needs) returns)

@@ -15,25 +15,24 @@ Inv-loop out₀ at x b i₀ out i = (i ≤ 4) × (length out ≡ length out₀) 
 abbrev μ-loop : tie.MeasureT-loop
 μ-loop out₀ at x b i₀ out i = 4 - i
 
-loop-holds : tie.Need-loop-holds Inv-loop μ-loop
-loop-holds c = (search needs, search needs, refl)
-
 loop-again : tie.Need-loop-again Inv-loop μ-loop
 loop-again c =
-    let l = c .before .before .before .before .before .loop in
-    let b = c .before .before .before .before .before .before .bytes-of-u32 .result in
-    let a = c .before .before .before .before .before .before .before .before .args in
-    (search needs, search needs, rw (add-one, c .before .before .put-byte .ensures, l .inv .2) (sets-suc (a .out .now) (a .at) b (l .i) (omega arith)))
+    let at-put-byte : tie.After-put-byte Inv-loop μ-loop = search in
+    let l : tie.At-loop Inv-loop μ-loop = search in
+    let b : tie.After-bytes-of-u32 Inv-loop μ-loop = search in
+    let a : tie.Start Inv-loop μ-loop = search in
+    (search needs, search needs, rw (add-one, at-put-byte .put-byte .ensures, l .loop .inv .2) (sets-suc (a .args .out .now) (a .args .at) (b .bytes-of-u32 .result) (l .loop .i) (omega arith)))
 
 returns : tie.Need-returns Inv-loop μ-loop
 returns c =
-    let l = c .before .loop in
-    let b = c .before .before .bytes-of-u32 .result in
-    let e : l .i ≡ length b = omega arith in
-    rw (l .inv .2, e, take-length b, c .before .before .bytes-of-u32 .ensures)
+    let l : tie.At-loop Inv-loop μ-loop = search in
+    let at-bytes-of-u32 : tie.After-bytes-of-u32 Inv-loop μ-loop = search in
+    let b = at-bytes-of-u32 .bytes-of-u32 .result in
+    let e : l .loop .i ≡ length b = omega arith in
+    rw (l .loop .inv .2, e, take-length b, at-bytes-of-u32 .bytes-of-u32 .ensures)
 
 pub put-u32-spec : {M : Type 1} → statement M
 put-u32-spec =
     tie.close
-    (tie.spec Inv-loop μ-loop (λ c κs. search needs) loop-holds (λ c. search needs) (λ c κs. search needs) (λ c. search needs) (λ c. search needs)
-    loop-again (λ c. search needs) returns)
+    (tie.spec Inv-loop μ-loop (λ c κs. search needs) (λ c. (search needs, search needs, refl)) (λ c. search needs) (λ c κs. search needs)
+    (λ c. search needs) (λ c. search needs) loop-again (λ c. search needs) returns)
