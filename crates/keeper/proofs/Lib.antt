@@ -1,3 +1,4 @@
+pub mod Carried
 pub mod Same
 pub mod Refusals
 pub mod Counter

@@ -22,7 +22,8 @@ use Rattle.ledger.specs.declared.Ledger.{Ledger}
 use Rattle.ledger.specs.declared.Timer.{Timer}
 use Rattle.ledger.specs.declared.Plan.{Plan}
 use Rattle.pool.specs.Mixing.{Pool, mix}
-use Rattle.pool.specs.Extracting.{Extract, extract, extractBlocks}
+use Rattle.pool.specs.Extracting.{Extract, extract}
+use Rattle.pool.proofs.Extracted.{laws, nothing}
 use Rattle.keeper.specs.FastPool.{stirred}
 use Rattle.keeper.specs.Generator.{xorAt, ontoKey, Stream, stream, generated}
 use Rattle.keeper.specs.Record.{timersIn, deviceTimer, inputPool, blockingPool, keeperOf, withLedger, withTimer, withInputPool, withBlockingPool, withFast, withGenerator, view, fine, Outcome, refused, finished}
@@ -30,12 +31,17 @@ use Rattle.keeper.specs.Calls.{Call, deviceEvent, interrupted, written, 
 use Rattle.keeper.specs.Narrative.{mixInput, recountInput, recountBlocking, debitInput, rekey, reseed, creditInput, eventCall, interruptCall, writeCall, seedCall, generate, readCall, transfer, deliver, blockingCall, act, told}
 use Rattle.keeper.specs.Obey.{obey, step}
 use Rattle.keeper.specs.declared.Keeper.{Keeper}
+use Rattle.keeper.proofs.Carried.{streamed, rests-blocking, delivered, rests-generator, untouched}
 use Rattle.ledger.specs.declared.Answer.{Answer}
+
+-- ---- a plan that leaves both pools alone
+unfed : (c : Call) (p : Plan) (k : Keeper) → p .feeds ≡ false → p .reseed ≡ 0 → p .transfer ≡ 0 → p .deliver ≡ 0 → obey c p k ≡ streamed c p k (nothing (inputPool k))
+unfed c p k ef er et ed = rests-blocking c p k et ed ∙ ap (streamed c p k) (untouched c p k ef er)
 
 -- a plan that does nothing is a refusal
 pub rests : (n : ℕ) (c : Call) (k : Keeper) → refused n k ≡ obey c (idle n (k .ledger)) k
-unfolding obey pick mix extractBlocks generated stream xorAt bytesWords
-rests n c k = refl
+unfolding pick generated stream xorAt bytesWords
+rests n c k = sym (unfed c (idle n (k .ledger)) k refl refl refl refl)
 
 -- a choice between plans is a choice between outcomes
 obey-pick : (c : Call) (t : Bool) (p q : Plan) (k : Keeper) {x y : Outcome} → x ≡ obey c p k → y ≡ obey c q k → pick t x y ≡ obey c (pick t p q) k
@@ -45,9 +51,8 @@ obey-pick c false p q k e f = f
 
 -- ---- mixed, credited, perhaps reseeded
 -- from the keeper k, its input pool at a count of cc, of which t bytes go onto the key
-form : ℕ → Keeper → ℕ → ℕ → Outcome
-form now k cc t =
-    let e = extract inputShape t (inputPool k) in
+formFrom : ℕ → Keeper → ℕ → ℕ → Extract → Outcome
+formFrom now k cc t e =
     record {
       keeper =
           withLedger (withSpots (e .pool .spot) (k .ledger .blocking .spot) (reseeding now cc t (k .ledger)))
@@ -56,12 +61,15 @@ form now k cc t =
       bytes = [];
     }
 
+form : ℕ → Keeper → ℕ → ℕ → Outcome
+form now k cc t = formFrom now k cc t (extract inputShape t (inputPool k))
+
 -- at a count of cc with nothing taken
 unmoved : (now : ℕ) (k : Keeper) (cc : ℕ) → finished (recountInput cc k, 0) ≡ form now k cc 0
-unfolding form pick extractBlocks xorAt bytesWords
+unfolding form formFrom pick xorAt bytesWords
 unmoved now k cc =
     let e : cc ≡ cc - 64 * 0 = omega arith in
-    ap (λ (n : ℕ). finished (recountInput n k, 0)) e
+    ap (λ (n : ℕ). finished (recountInput n k, 0)) e ∙ sym (ap (formFrom now k cc 0) ((laws inputShape) .take-none (inputPool k)))
 
 -- a reseed of t bytes from a count of cc, in the paper's order
 reseeded : (now : ℕ) (k : Keeper) (cc t : ℕ)
@@ -70,7 +78,7 @@ reseeded : (now : ℕ) (k : Keeper) (cc t : ℕ)
     finished (pick (eqb t 0) (k₁, 0) (rekey now e (debitInput t k₁), e .runs)) ≡ form now k cc t
 unfolding pick
 reseeded now k cc zero = unmoved now k cc
-reseeded now k cc (suc n) = rw (ne-eqb (suc n) 0 (λ e. omega arith)) (unfold form in rw (ne-eqb (suc n) 0 (λ e. omega arith)))
+reseeded now k cc (suc n) = rw (ne-eqb (suc n) 0 (λ e. omega arith)) (unfold form formFrom in rw (ne-eqb (suc n) 0 (λ e. omega arith)))
 
 -- the two ways to tell whether a reseed comes
 credits : (now : ℕ) (k : Keeper) (a s l : Bool) (cc t : ℕ) → (a ≡ true → cc ≡ k .ledger .input .count)
@@ -102,18 +110,8 @@ feeding now keeps stirs tm l cc t =
 
 formed : (now : ℕ) (keeps stirs : Bool) (tm : Timer) (l : Ledger) (cc t : ℕ) (c : Call) (k : Keeper)
     → form now (base keeps stirs tm l c k) cc t ≡ obey c (feeding now keeps stirs tm l cc t) k
-unfolding form base feeding obey pick mix extractBlocks generated stream xorAt bytesWords
-formed now keeps stirs tm l cc t c k =
-    let b = base keeps stirs tm l c k in
-    let e = extract inputShape t (inputPool b) in
-    let z : e .runs ≡ e .runs + 0 + 0 = omega arith in
-    ap (λ (n : ℕ). record {
-      keeper =
-          withLedger (withSpots (e .pool .spot) (b .ledger .blocking .spot) (reseeding now cc t (b .ledger)))
-          (withGenerator (ontoKey (e .bytes) (b .generator)) (withInputPool (e .pool) b));
-      answer = record { number = 0; delivered = 0; blocks = 0; compressions = n };
-      bytes = [];
-    }) z
+unfolding form formFrom base feeding pick generated stream xorAt bytesWords
+formed now keeps stirs tm l cc t c k = sym (rests-blocking c (feeding now keeps stirs tm l cc t) k refl refl)
 
 feeds : (now n : ℕ) (keeps stirs : Bool) (tm : Timer) (l : Ledger) (c : Call) (k : Keeper)
     → let cc = credited (inputShape .size) n (l .input .count) in
@@ -145,8 +143,8 @@ same-event device now stamp value k =
 only-stirs : (now number stamp address : ℕ) (k : Keeper)
     → finished (withLedger (tallied (k .ledger)) (withFast (stirred now number stamp address (k .fast)) k), 0)
     ≡ obey (interrupted now number stamp address) (planOf 0 (tallied (k .ledger)) true false 0 0 0 0) k
-unfolding obey pick mix extractBlocks generated stream xorAt bytesWords
-only-stirs now number stamp address k = refl
+unfolding pick generated stream xorAt bytesWords
+only-stirs now number stamp address k = sym (unfed (interrupted now number stamp address) (planOf 0 (tallied (k .ledger)) true false 0 0 0 0) k refl refl refl refl)
 
 spills : (now number stamp address : ℕ) (k : Keeper)
     → let f = stirred now number stamp address (k .fast) in
@@ -163,8 +161,10 @@ same-interrupt now number stamp address k =
     obey-pick (interrupted now number stamp address) _ _ _ k (only-stirs now number stamp address k) (spills now number stamp address k)
 
 mixes : (bs : List ℕ) (k : Keeper) → finished (mixInput bs k, 0) ≡ obey (written bs) (planOf 0 (k .ledger) false true 0 0 0 0) k
-unfolding obey pick mix extractBlocks generated stream xorAt bytesWords
-mixes bs k = refl
+unfolding pick generated stream xorAt bytesWords
+mixes bs k =
+    let p = planOf 0 (k .ledger) false true 0 0 0 0 in
+    sym (rests-blocking (written bs) p k refl refl ∙ ap (streamed (written bs) p k) ((laws inputShape) .take-none (mix inputShape (inputPool k) bs)))
 
 same-write : (bs : List ℕ) (k : Keeper) → writeCall bs k ≡ obey (written bs) (planWrite (length bs) (k .ledger)) k
 unfolding writeCall planWrite
@@ -186,14 +186,15 @@ reads : (now len t : ℕ) (c : Call) (k : Keeper)
     → let e = extract inputShape t (inputPool k) in
     generate len (pick (eqb t 0) (k, 0) (rekey now e (debitInput t k), e .runs))
     ≡ obey c (planOf 0 (reseeding now (k .ledger .input .count) t (k .ledger)) false false t 0 0 len) k
-unfolding obey pick generate mix extractBlocks xorAt bytesWords
+unfolding pick generate xorAt bytesWords
 reads now len zero c k =
     let e : k .ledger .input .count ≡ k .ledger .input .count - 64 * 0 = omega arith in
-    ap (λ (n : ℕ). generate len (recountInput n k, 0)) e
+    ap (λ (n : ℕ). generate len (recountInput n k, 0)) e ∙ sym (unfed c (planOf 0 (reseeding now (k .ledger .input .count) 0 (k .ledger)) false false 0 0 0 len) k refl refl refl refl)
 reads now len (suc n) c k =
-    let e = extract inputShape (suc n) (inputPool k) in
-    let z : e .runs ≡ e .runs + 0 + 0 = omega arith in
-    rw (ne-eqb (suc n) 0 (λ h. omega arith)) (ap (λ (m : ℕ). generate len (rekey now e (debitInput (suc n) k), m)) z)
+    let p = planOf 0 (reseeding now (k .ledger .input .count) (suc n) (k .ledger)) false false (suc n) 0 0 len in
+    let r : obey c p k ≡ streamed c p k (extract inputShape (suc n) (inputPool k)) =
+    rests-blocking c p k refl refl ∙ ap (λ (q : Pool). streamed c p k (extract inputShape (suc n) q)) ((laws inputShape) .mix-none (inputPool k)) in
+    rw (ne-eqb (suc n) 0 (λ h. omega arith)) (rw (ne-eqb (suc n) 0 (λ h. omega arith)) at (sym r))
 
 reads-if : (now len : ℕ) (due : Bool) (c : Call) (k : Keeper)
     → generate len (pick due (reseed now k) (k, 0))
@@ -212,14 +213,16 @@ same-read now len k =
 draws : (n t : ℕ) (c : Call) (k : Keeper)
     → let d = taken n 0 (refilled t (k .ledger)) in
     deliver n (transfer t k) ≡ obey c (planOf 0 (blockingCounts (debited d (refilled t (k .ledger))) (inputCounts (debited t (k .ledger .input .count)) (k .ledger))) false false 0 t d 0) k
-unfolding deliver transfer obey pick mix extractBlocks generated stream xorAt bytesWords
+unfolding deliver transfer pick
 draws n t c k =
     let d = taken n 0 (refilled t (k .ledger)) in
+    let p = planOf 0 (blockingCounts (debited d (refilled t (k .ledger))) (inputCounts (debited t (k .ledger .input .count)) (k .ledger))) false false 0 t d 0 in
+    let o = delivered c p k (nothing (inputPool k)) in
     let x = extract inputShape t (inputPool k) in
     let y = extract blockingShape d (mix blockingShape (blockingPool k) (x .bytes)) in
     let z : x .runs + y .runs ≡ 0 + x .runs + y .runs = omega arith in
-    let k₁ = withBlockingPool (y .pool) (withInputPool (x .pool) (recountBlocking (debited d (refilled t (k .ledger))) (recountInput (debited t (k .ledger .input .count)) k))) in
-    ap₂ (λ (m : ℕ) (bs : List ℕ). record { keeper = k₁; answer = record { number = 0; delivered = length bs; blocks = 0; compressions = m }; bytes = bs }) z (sym (append-nil (y .bytes)))
+    ap (λ (m : ℕ). record { keeper = o .keeper; answer = record { number = 0; delivered = length (y .bytes); blocks = 0; compressions = m }; bytes = y .bytes }) z
+    ∙ sym (rests-generator c p k refl refl ∙ ap (delivered c p k) (untouched c p k refl refl))
 
 same-blocking : (n : ℕ) (k : Keeper) → blockingCall n k ≡ obey (blockingReadOf n) (planBlockingRead n (k .ledger)) k
 unfolding blockingCall planBlockingRead

@@ -102,6 +102,10 @@ unfolding extractBlocks
 blocks-runs sh zero p = sym (mul-zero (rounds sh))
 blocks-runs sh (suc n) p = rw (hash-runs sh p, blocks-runs sh n) (add-comm (rounds sh) (rounds sh * n) ∙ sym (mul-suc (rounds sh) n))
 
+-- no bytes, and the pool as it was
+abbrev pub nothing : Pool → Extract
+nothing p = record { bytes = []; pool = p; runs = 0 }
+
 -- ---- what a theorem about calls asks of a pool: a way to mix bytes in, a way to take bytes out, and what is public of both, how they move the
 -- place and what they cost. A pool of another kind is another value of this record, and no theorem above is proved again for it.
 pub record LawsOf (mixes : Pool → List ℕ → Pool) (takes : ℕ → Pool → Extract) (moves moves-out : ℕ → Spot → Spot) (cost : ℕ → ℕ) : Type 0 where
@@ -114,7 +118,7 @@ pub record LawsOf (mixes : Pool → List ℕ → Pool) (takes : ℕ → Pool →
   pub take-spot : (k : ℕ) (p : Pool) → (takes k p) .pool .spot ≡ moves-out k (p .spot)
   pub take-words : (k : ℕ) (p : Pool) → length ((takes k p) .pool .words) ≡ length (p .words)
   pub take-runs : (k : ℕ) (p : Pool) → (takes k p) .runs ≡ cost k
-  pub take-none : (p : Pool) → takes 0 p ≡ record { bytes = []; pool = p; runs = 0 }
+  pub take-none : (p : Pool) → takes 0 p ≡ nothing p
 
 -- those of the pools of specs/, for every shape
 abbrev pub Laws : Shape → Type 0
