@@ -57,8 +57,7 @@ module _ (sh : Shape) (p : Pool) (n : ℕ) (room bs : List ℕ) (fits : n ≤ le
 
 -- ---- a reseed that takes nothing
 pub none-out : (sh : Shape) (t : ℕ) (q : Pool) → t ≡ 0 → _≡_ {A = Extract} (record { bytes = []; pool = q; runs = 0 }) (extract sh t q)
-unfolding extractBlocks
-none-out sh t q e = rw e refl
+none-out sh t q e = rw e (sym ((laws sh) .take-none q))
 
 pub onto-none : (bs g : List ℕ) → bs ≡ [] → g ≡ ontoKey bs g
 unfolding xorAt bytesWords

@@ -39,14 +39,16 @@ answer-is c p k w =
 
 -- ---- the blocking pool rests: nothing comes over, and nothing is delivered
 -- what is left to do then is the reseed's r, and the generator's bytes
-abbrev pub streamed : Call → Plan → Keeper → Extract → Outcome
-streamed c p k r =
-    let s = generated (p .stream) (ontoKey (r .bytes) (k .generator)) in
+abbrev pub streamedBy : Call → Plan → Keeper → Extract → Stream → Outcome
+streamedBy c p k r s =
     record {
       keeper = keeperOf (withSpots (r .pool .spot) (k .ledger .blocking .spot) (p .ledger)) (timersAfter (deviceOf (public c)) p (timersIn k)) (r .pool .words) (k .blocking) (fastAfter c p k) (s .generator);
       answer = record { number = p .number; delivered = length (s .bytes); blocks = s .blocks; compressions = r .runs };
       bytes = s .bytes;
     }
+
+abbrev pub streamed : Call → Plan → Keeper → Extract → Outcome
+streamed c p k r = streamedBy c p k r (generated (p .stream) (ontoKey (r .bytes) (k .generator)))
 
 -- no bytes from a pool, and none into it
 pub none-taken : (sh : Shape) (t : ℕ) (q : Pool) → t ≡ 0 → extract sh t q ≡ nothing q
@@ -78,7 +80,7 @@ pub key-rests : (t : ℕ) (q : Pool) (g : List ℕ) → t ≡ 0 → ontoKey ((ex
 unfolding xorAt bytesWords
 key-rests t q g e = ap (λ (x : Extract). ontoKey (x .bytes) g) (none-taken inputShape t q e)
 
-none-made : (n : ℕ) (g : List ℕ) → n ≡ 0 → generated n g ≡ record { bytes = []; generator = g; blocks = 0 }
+pub none-made : (n : ℕ) (g : List ℕ) → n ≡ 0 → generated n g ≡ record { bytes = []; generator = g; blocks = 0 }
 none-made n g e = rw e (generated-none g)
 
 pub still-generator : (c : Call) (p : Plan) (k : Keeper) → p .reseed ≡ 0 → p .stream ≡ 0 → fromGenerator c p k ≡ record { bytes = []; generator = k .generator; blocks = 0 }

@@ -28,8 +28,9 @@ use Rattle.keeper.specs.Narrative.{told}
 use Rattle.keeper.specs.Obey.{obey, step}
 use Rattle.keeper.specs.Demands.{shown}
 use Rattle.keeper.specs.declared.Keeper.{Keeper}
-use Rattle.keeper.proofs.Counter.{key-length, key-top, generated-length, generated-blocks, generated-top, generated-keeps-length}
+use Rattle.keeper.proofs.Counter.{key-length, key-top, generated-length, generated-top, generated-keeps-length}
 use Rattle.keeper.proofs.Fast.{stirred-length, fast-bytes, event-bytes}
+use Rattle.keeper.proofs.Carried.{answer-is}
 use Rattle.keeper.proofs.Same.{same}
 
 -- ---- a keeper's lists that are lent have the lengths of their arrays; two of them matter here
@@ -81,17 +82,14 @@ obey-shadow c p k w =
     let b = mix blockingShape (blockingPool k) (t .bytes) in
     let d = extract blockingShape (p .deliver) b in
     let x = ontoKey (r .bytes) (k .generator) in
-    let s = generated (p .stream) x in
     let long : length x ≡ 16 = key-length (r .bytes) (k .generator) ∙ w .generator in
     let into = taken-to inputShape (p .transfer) (r .pool) _ (taken-to inputShape (p .reseed) i _ (mixed-to inputShape (inputPool k) _ _ (fed-length (p .feeds) c f (fast-whole (p .stirs) c (k .fast) (w .fast))))) in
     let out = taken-to blockingShape (p .deliver) b _ (mixed-to blockingShape (blockingPool k) (t .bytes) (p .transfer) ((laws inputShape) .take-length (p .transfer) (r .pool))) in
     let top = generated-top (p .stream) x ∙ key-top (r .bytes) (k .generator) in
-    let given : length (d .bytes ++ s .bytes) ≡ p .deliver + p .stream = length-append (d .bytes) (s .bytes) ∙ ap₂ _+_ ((laws blockingShape) .take-length (p .deliver) b) (generated-length (p .stream) x long) in
-    let runs = ap₂ _+_ (ap₂ _+_ ((laws inputShape) .take-runs (p .reseed) i) ((laws inputShape) .take-runs (p .transfer) (r .pool))) ((laws blockingShape) .take-runs (p .deliver) b) in
-    let made = generated-blocks (p .stream) x in
+    let a = answer-is c p k (generated-length (p .stream) x long) in
     λ j. record {
       view = record { ledger = withSpots (into j) (out j) (p .ledger); timers = timersAfter (deviceOf (public c)) p (timersIn k); fixed = top j };
-      answer = record { number = p .number; delivered = given j; blocks = made j; compressions = runs j };
+      answer = a j;
     }
 
 -- a call shows what the public machine gives

@@ -1,5 +1,4 @@
 pub mod Accepted
-pub mod Carried
 pub mod Starting
 pub mod Strokes
 pub mod FixedAnswers

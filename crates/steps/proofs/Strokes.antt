@@ -33,11 +33,11 @@ use Rattle.keeper.specs.Obey.{fastAfter, forReseed, forTransfer, forDelivery, f
 use Rattle.keeper.specs.declared.Keeper.{Keeper}
 use Rattle.ledger.specs.declared.Answer.{Answer}
 use Rattle.keeper.proofs.Counter.{key-length, generated-length}
+use Rattle.keeper.proofs.Carried.{answer-is, none-taken, none-made, streamedBy, rests-blocking, rests-generator, still-generator}
 use Rattle.keeper.proofs.Same.{same}
 use Rattle.keeper.proofs.Refusals.{demand-1}
 use Rattle.steps.specs.Promise.{Left, left, over, leaves}
-use Rattle.steps.proofs.Accepted.{any-timer, EventPlan, InterruptPlan, FedPlan, WritePlan, ReadPlan, BlockingPlan}
-use Rattle.steps.proofs.Carried.{none-taken, fed, streamed, delivered, in-front}
+use Rattle.steps.proofs.Accepted.{any-timer, Feeds, EventPlan, InterruptPlan, FedPlan, WritePlan, ReadPlan, BlockingPlan}
 
 -- ---- the plan
 -- a plan is the one at a record. Which record is then told by the type
@@ -95,6 +95,23 @@ refusal k c room p e h =
 accepted : (k : Keeper) (c : Call) (room : List ℕ) (p : Plan) → Planned k (public c) p → leaves k c room ≡ over room (obey c p k)
 unfolding leaves step
 accepted k c room p e = ap (over room) (same k c ∙ ap (λ (q : Plan). obey c q k) (sym (e .is)))
+
+-- with the plan's answer, and over a room
+over-room : (c : Call) (p : Plan) (k : Keeper) (room : List ℕ) (o : Outcome) → obey c p k ≡ o → length ((fromGenerator c p k) .bytes) ≡ p .stream
+    → over room (obey c p k) ≡ left (o .keeper) (answerOf p) (roomAfter room (o .bytes))
+over-room c p k room o e w = λ j. left ((e j) .keeper) (answer-is c p k w j) (roomAfter room ((e j) .bytes))
+
+-- a plan that feeds: the input pool, the key, the fast pool and a timer
+fed : (c : Call) (p : Plan) (k : Keeper) (room : List ℕ) → Feeds p
+    → over room (obey c p k) ≡ left ((streamedBy c p k (forReseed c p k) (record { bytes = []; generator = ontoKey ((forReseed c p k) .bytes) (k .generator); blocks = 0 })) .keeper) (answerOf p) room
+fed c p k room f =
+    let r = forReseed c p k in
+    let g = none-made (p .stream) (ontoKey (r .bytes) (k .generator)) (f .stream) in
+    over-room c p k room _ (rests-blocking c p k (f .transfer) (f .deliver) ∙ ap (streamedBy c p k r) g) (ap (λ (s : Stream). length (s .bytes)) g ∙ sym (f .stream))
+
+-- so many bytes in the room
+in-front : (room bs : List ℕ) (n : ℕ) → length bs ≡ n → roomAfter room bs ≡ bs ++ drop n room
+in-front room bs n e = rw e refl
 
 -- part by part
 parts : {l m : Ledger} {ts us : Timers} {i j b d f g x y : List ℕ} {a : Answer} {u v : List ℕ}
@@ -283,7 +300,7 @@ read-done k now room p xs u g h out ep sh hw hg ex eu eg eo eh =
     (sym (unstirred c p k (sh .stirs)))
     (eh ∙ ap (λ (s : Stream). s .generator) made)
     (eo ∙ sym full ∙ ap (λ (s : Stream). roomAfter room (s .bytes)) made)
-    ∙ sym (accepted k c room p ep ∙ streamed c p k room (sh .transfer) (sh .deliver) all-of-it)
+    ∙ sym (accepted k c room p ep ∙ over-room c p k room _ (rests-blocking c p k (sh .transfer) (sh .deliver)) all-of-it)
 
 -- ---- blocking read
 blocking-takes : (p : Plan) (k : Keeper) (len : ℕ) → p .feeds ≡ false → p .reseed ≡ 0
@@ -320,4 +337,4 @@ blocking-done k room p xs ys zs u v w out ep sh hi hb ex eu em ez ew eo =
     (sym (unstirred c p k (sh .stirs)))
     refl
     (eo ∙ ap (λ (e : Extract). e .bytes ++ drop (p .deliver) room) d ∙ sym front)
-    ∙ sym (accepted k c room p ep ∙ delivered c p k room (sh .reseed) (sh .stream))
+    ∙ sym (accepted k c room p ep ∙ over-room c p k room _ (rests-generator c p k (sh .reseed) (sh .stream)) (ap (λ (s : Stream). length (s .bytes)) (still-generator c p k (sh .reseed) (sh .stream)) ∙ sym (sh .stream)))
