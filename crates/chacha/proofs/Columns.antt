@@ -1,10 +1,9 @@
 -- A double round on a state that is written out: four quarters of its columns, then four of its diagonals.
 use mathlib.Core.Path.{_≡_, refl, sym, ap, _∙_}
 use mathlib.Core.List.{List, [], _∷_}
-use Prim.Native.Nat.{ℕ, zero, suc, _+_}
-use native.Mathlib.Omega.{arith}
-use lib.ListN.{length, getD, set, drop, drop-of-length-le}
-use lib.Seq.{drop-cons}
+use Prim.Native.Nat.{ℕ}
+use lib.ListN.{length, getD, set}
+use Rattle.words.proofs.WrittenOut.{gets-all}
 use Rattle.chacha.specs.declared.rounds.Four.{Four}
 use Rattle.chacha.specs.Chacha.{line, quarterRound, quarter, innerBlock}
 
@@ -63,15 +62,6 @@ named : (x0 x1 x2 x3 x4 x5 x6 x7 x8 x9 x10 x11 x12 x13 x14 x15 : ℕ) (p q r t u
 unfolding innerBlock
 named x0 x1 x2 x3 x4 x5 x6 x7 x8 x9 x10 x11 x12 x13 x14 x15 p q r t u v w x ep eq er et eu ev ew ex =
     rw (ex, ew, ev, eu, et, er, eq, ep, column-0, column-1, column-2, column-3, diagonal-0, diagonal-1, diagonal-2, diagonal-3)
-
--- a list of n, written out from place i on
-abbrev gets : ℕ → ℕ → List ℕ → List ℕ
-gets zero i s = []
-gets (suc n) i s = getD s i 0 ∷ gets n (suc i) s
-
-gets-all : (n i : ℕ) (s : List ℕ) → length s ≡ i + n → drop i s ≡ gets n i s
-gets-all zero i s h = drop-of-length-le s {i = i} (omega arith)
-gets-all (suc n) i s h = drop-cons s i 0 (omega arith) ∙ ap (λ (t : List ℕ). getD s i 0 ∷ t) (gets-all n (suc i) s (omega arith))
 
 -- .. of a state
 pub double-round : (s : List ℕ) (p q r t u v w x : Four) → length s ≡ 16

@@ -4,11 +4,12 @@
 ghost use mathlib.Core.Path.{_≡_};
 ghost use Prim.Native.Nat.{_<_, _/_, _%_, _^_};
 ghost use Rattle.keeper.specs.FastPool.{fastStep, fastRound, stirred};
+use ledger::sizes::FAST_WORDS;
 use std::num::wrapping_add_u32;
 use words::rotate_left;
 
 // a += b, c += d, b and d rotated left by r and s, d ^= a, b ^= c.
-fn fast_step(f: [u32; 4], r: u32, s: u32) -> [u32; 4]
+fn fast_step(f: [u32; FAST_WORDS], r: u32, s: u32) -> [u32; FAST_WORDS]
     requires { ⌜ (r < 32) × (s < 32) ⌝ }
     ensures { λ n. ⌜ n ≡ fastStep r s f ⌝ }
 {
@@ -18,7 +19,7 @@ fn fast_step(f: [u32; 4], r: u32, s: u32) -> [u32; 4]
 }
 
 // The two steps.
-fn fast_round(f: [u32; 4]) -> [u32; 4]
+fn fast_round(f: [u32; FAST_WORDS]) -> [u32; FAST_WORDS]
     ensures { λ n. ⌜ n ≡ fastRound f ⌝ }
 {
     let g = fast_step(f, 6, 27);
@@ -39,7 +40,7 @@ fn high(x: u64) -> u32
 }
 
 // An interrupt's numbers go in, and the two steps are done twice over.
-pub fn stir(f: &mut [u32; 4], at: u32, number: u32, stamp: u64, address: u64)
+pub fn stir(f: &mut [u32; FAST_WORDS], at: u32, number: u32, stamp: u64, address: u64)
     ensures { λ _. ⌜ now (f .exit) ≡ stirred at number stamp address (now (f .entry)) ⌝ }
 {
     let w = *f;

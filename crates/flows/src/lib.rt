@@ -7,6 +7,7 @@ ghost use mathlib.Core.List.{[], _++_};
 ghost use Prim.Native.Nat.{_≤_};
 ghost use lib.ListN.{length, drop};
 ghost use Rattle.words.specs.Bytes.{wordsBytes};
+ghost use Rattle.ledger.specs.Sizes.{generatorWords};
 ghost use Rattle.ledger.specs.Choice.{pick};
 ghost use Rattle.pool.specs.Mixing.{mix};
 ghost use Rattle.pool.specs.Extracting.{extract};
@@ -58,7 +59,7 @@ pub fn spill(ws: &mut [u32], s: Spot, f: &[u32], spills: bool) -> Spot
 // Bytes taken from a pool go onto the key, through the front of a room.
 fn reseed_through(ws: &mut [u32], s: Spot, g: &mut [u32], room: &mut [u8], n: usize) -> Spot
     requires { ⌜ InPool (length (now ws)) s ⌝ }
-    requires { ⌜ length (now g) ≡ 16 ⌝ }
+    requires { ⌜ length (now g) ≡ generatorWords ⌝ }
     requires { ⌜ (n ≤ 32) × (n ≤ length (now room)) ⌝ }
     ensures { λ r. ⌜ now (ws .exit) ≡ (extract (shapeOf (length (now (ws .entry)))) n (record { words = now (ws .entry); spot = s })) .pool .words ⌝ }
     ensures { λ r. ⌜ r ≡ (extract (shapeOf (length (now (ws .entry)))) n (record { words = now (ws .entry); spot = s })) .pool .spot ⌝ }
@@ -72,7 +73,7 @@ fn reseed_through(ws: &mut [u32], s: Spot, g: &mut [u32], room: &mut [u8], n: us
 // A reseed of so many bytes; of none, nothing changes.
 pub fn reseed(ws: &mut [u32], s: Spot, g: &mut [u32], t: u32) -> Spot
     requires { ⌜ InPool (length (now ws)) s ⌝ }
-    requires { ⌜ length (now g) ≡ 16 ⌝ }
+    requires { ⌜ length (now g) ≡ generatorWords ⌝ }
     requires { ⌜ t ≤ 32 ⌝ }
     ensures { λ r. ⌜ now (ws .exit) ≡ (extract (shapeOf (length (now (ws .entry)))) t (record { words = now (ws .entry); spot = s })) .pool .words ⌝ }
     ensures { λ r. ⌜ r ≡ (extract (shapeOf (length (now (ws .entry)))) t (record { words = now (ws .entry); spot = s })) .pool .spot ⌝ }

@@ -3,6 +3,7 @@ ghost use mathlib.Core.Path.{_≡_};
 ghost use Prim.Native.Nat.{_≤_};
 ghost use lib.ListN.{length, getD, take, drop};
 ghost use Rattle.words.specs.Bytes.{leNumber};
+ghost use Rattle.ledger.specs.Sizes.{generatorWords};
 ghost use Rattle.keeper.specs.Generator.{ontoKey};
 use words::u32_of_bytes;
 
@@ -27,7 +28,7 @@ fn word_at(bytes: &[u8], k: usize) -> u32
 
 // At most 32 bytes go onto the first bytes of the key.
 pub fn onto_key(g: &mut [u32], bytes: &[u8])
-    requires { ⌜ length (now g) ≡ 16 ⌝ }
+    requires { ⌜ length (now g) ≡ generatorWords ⌝ }
     requires { ⌜ length (now bytes) ≤ 32 ⌝ }
     ensures { λ _. ⌜ now (g .exit) ≡ ontoKey (now (bytes .entry)) (now (g .entry)) ⌝ }
 {

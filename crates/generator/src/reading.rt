@@ -6,11 +6,13 @@ ghost use lib.ListN.{length, set, take};
 ghost use Rattle.words.specs.Words.{add};
 ghost use lib.Seq.{sets};
 ghost use Rattle.chacha.specs.Chacha.{chachaBlock, serialize};
+ghost use Rattle.ledger.specs.Sizes.{generatorWords, longest};
 ghost use Rattle.ledger.specs.Choice.{pick};
 ghost use Rattle.ledger.specs.Streams.{wholeBlocks, usedUp};
 ghost use Rattle.keeper.specs.Generator.{counted, stream, generated};
 use crate::key::onto_key;
 use chacha::lay_block;
+use ledger::sizes::GENERATOR_WORDS;
 use std::num::wrapping_add_u32;
 
 // The high word of the counter, where the low one has become `low`.
@@ -24,10 +26,10 @@ fn carried(low: u32, high: u32) -> u32
 }
 
 // The next block laid over a room from its start, and the counter of words 12 and 13 moved on by one.
-fn next_block(g: &mut [u32; 16], room: &mut [u8])
+fn next_block(g: &mut [u32; GENERATOR_WORDS], room: &mut [u8])
     ensures { λ _. ⌜ now (room .exit) ≡ sets (now (room .entry)) 0 (serialize (chachaBlock (now (g .entry)))) ⌝ }
     ensures { λ _. ⌜ now (g .exit) ≡ counted (now (g .entry)) ⌝ }
-    ensures { λ _. ⌜ length (now (g .entry)) ≡ 16 ⌝ }
+    ensures { λ _. ⌜ length (now (g .entry)) ≡ generatorWords ⌝ }
 {
     lay_block(g, room);
     let low = wrapping_add_u32(g[12], 1);
@@ -70,8 +72,8 @@ fn lay_whole(out: &mut [u8], block: &[u8])
 
 // Blocks until the room is full. All but the last go straight into it; the last goes by way of a room of its own, which keeps what is
 // not handed out: the key is changed from there.
-fn fill(g: &mut [u32; 16], out: &mut [u8], last: &mut [u8])
-    requires { ⌜ (1 ≤ length (now out)) × (length (now out) ≤ 4096) ⌝ }
+fn fill(g: &mut [u32; GENERATOR_WORDS], out: &mut [u8], last: &mut [u8])
+    requires { ⌜ (1 ≤ length (now out)) × (length (now out) ≤ longest) ⌝ }
     requires { ⌜ length (now last) ≡ 64 ⌝ }
     ensures { λ _. ⌜ now (out .exit) ≡ take (length (now (out .entry))) ((stream (wholeBlocks (length (now (out .entry)))) (now (g .entry))) .bytes) ⌝ }
     ensures { λ _. ⌜ now (g .exit) ≡ (stream (wholeBlocks (length (now (out .entry)))) (now (g .entry))) .generator ⌝ }
@@ -88,7 +90,7 @@ fn fill(g: &mut [u32; 16], out: &mut [u8], last: &mut [u8])
 
 // Bytes used of the last block of a read, rounded up to 4.
 fn used_up(len: usize) -> usize
-    requires { ⌜ (1 ≤ len) × (len ≤ 4096) ⌝ }
+    requires { ⌜ (1 ≤ len) × (len ≤ longest) ⌝ }
     ensures { λ r. ⌜ r ≡ usedUp len ⌝ }
     ensures { λ r. ⌜ r ≤ 64 ⌝ }
 {
@@ -96,8 +98,8 @@ fn used_up(len: usize) -> usize
 }
 
 // Fills the room, of at most 4,096 bytes, and changes the key.
-pub fn generate(g: &mut [u32; 16], out: &mut [u8])
-    requires { ⌜ length (now out) ≤ 4096 ⌝ }
+pub fn generate(g: &mut [u32; GENERATOR_WORDS], out: &mut [u8])
+    requires { ⌜ length (now out) ≤ longest ⌝ }
     ensures { λ _. ⌜ now (out .exit) ≡ (generated (length (now (out .entry))) (now (g .entry))) .bytes ⌝ }
     ensures { λ _. ⌜ now (g .exit) ≡ (generated (length (now (out .entry))) (now (g .entry))) .generator ⌝ }
 {

@@ -12,6 +12,7 @@ use lib.Seq.{getD-set-same}
 use Rattle.words.specs.Words.{rotl}
 use Rattle.ledger.specs.Choice.{pick}
 use Rattle.ledger.specs.Shapes.{Shape}
+use Rattle.ledger.specs.Sizes.{inputWords, blockingWords}
 use Rattle.ledger.specs.Places.{turned}
 use Rattle.ledger.specs.declared.Spot.{Spot}
 use Rattle.mixer.specs.declared.mixing.Taps.{Taps}
@@ -22,7 +23,7 @@ use Rattle.mixer.specs.Mixed.{spotOf, Stands, Mixed}
 use Rattle.mixer.proofs.Twist.{twist-xor}
 
 -- a mask is the remainder, at either size
-pub masked : (j n : ℕ) → (n ≡ 128) ⊎ (n ≡ 32) → bitAnd j (n - 1) ≡ j % n
+pub masked : (j n : ℕ) → (n ≡ inputWords) ⊎ (n ≡ blockingWords) → bitAnd j (n - 1) ≡ j % n
 masked j n h = ⊎-elim (λ e. rw e (and-mask j 7)) (λ e. rw e (and-mask j 5)) h
 
 -- the shape by a word count has that many words
@@ -31,10 +32,10 @@ unfolding shapeOf pick
 shape-words n z = ⊎-elim (λ e. rw e) (λ e. rw e) (z .one-of)
 
 -- a caller's two pools, at a place inside
-pub in-input : (s : Spot) → s .at < 128 → s .turn ≤ 31 → InPool 128 s
+pub in-input : (s : Spot) → s .at < inputWords → s .turn ≤ 31 → InPool inputWords s
 in-input s h k = record { place = h; turning = k; size = record { few = omega arith; some = omega arith; one-of = inl refl } }
 
-pub in-blocking : (s : Spot) → s .at < 32 → s .turn ≤ 31 → InPool 32 s
+pub in-blocking : (s : Spot) → s .at < blockingWords → s .turn ≤ 31 → InPool blockingWords s
 in-blocking s h k = record { place = h; turning = k; size = record { few = omega arith; some = omega arith; one-of = inr refl } }
 
 -- the rotation at position 0, and at another one
@@ -126,7 +127,7 @@ pub taps-on : {start bytes ws : List ℕ} {s : Spot} {p : Place} {t : Taps} → 
 taps-on ts m = rw (m .as-many) ts
 
 -- the position stays small
-pub at-few : {start bytes ws : List ℕ} {s : Spot} {p : Place} → Mixed start s bytes ws p → p .at < 128
+pub at-few : {start bytes ws : List ℕ} {s : Spot} {p : Place} → Mixed start s bytes ws p → p .at < inputWords
 at-few m = omega (arith, m .stands .inside .place, m .stands .inside .size .few)
 
 -- all are mixed in: what a function that began at the spot q and answers r then promises

@@ -4,11 +4,13 @@ ghost use mathlib.Core.List.{[], _∷_};
 ghost use Prim.Native.Nat.{_<_, _≤_, _%_};
 ghost use lib.ListN.{length, getD};
 ghost use Rattle.words.specs.Bytes.{leBytes, wordsBytes};
+ghost use Rattle.ledger.specs.Sizes.{inputWords};
 ghost use Rattle.ledger.specs.Places.{turned};
 ghost use Rattle.pool.specs.Mixing.{twistTable, twisted, tapped, mix};
 ghost use Rattle.mixer.specs.Sizes.{shapeOf, Size, InPool, farTaps, TapsOf};
 ghost use Rattle.mixer.specs.Mixed.{spotOf, Stands, Mixed};
 use ledger::Spot;
+use ledger::sizes::INPUT_WORDS;
 use words::rotate_left;
 
 // The taps of a pool, but for the last, which is 1 in both.
@@ -42,7 +44,7 @@ pub const TWISTS: [u32; 8] = [
 fn taps_of(n: usize) -> Taps
     ensures { λ r. ⌜ TapsOf n r ⌝ }
 {
-    if n == 128 {
+    if n == INPUT_WORDS {
         Taps {
             a: 104,
             b: 76,
@@ -164,7 +166,7 @@ fn place_of(ws: &[u32], s: Spot) -> Place
 
 // .. and back.
 fn spot_of(p: Place) -> Spot
-    requires { ⌜ p .at < 128 ⌝ }
+    requires { ⌜ p .at < inputWords ⌝ }
     ensures { λ r. ⌜ r ≡ spotOf p ⌝ }
 {
     Spot {
