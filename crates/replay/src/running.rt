@@ -5,7 +5,8 @@ ghost use Prim.Native.Nat.{ℕ, min};
 ghost use lib.ListN.{length};
 ghost use Rattle.keeper.specs.Calls.{generatorRead, blockingReadOf};
 ghost use Rattle.steps.specs.Promise.{keeperOf, left, leaves};
-ghost use Rattle.replay.specs.Running.{callOf};
+ghost use Rattle.journal.specs.Writing.{carriedBy};
+ghost use Rattle.replay.specs.Running.{callWith};
 use journal::Record;
 use journal::payload;
 use ledger::Ledger;
@@ -68,10 +69,11 @@ fn blocking_read_into(
     )
 }
 
-// The call that a record stands for. What it hands out is laid into the front of `out`.
+// The call that a record stands for; `next` is the position after it. What it hands out is laid into the front of `out`.
 pub fn run(
     j: &[u8],
     it: Record,
+    next: usize,
     l: Ledger,
     clocks: &mut [u32; 16],
     firsts: &mut [i64; 16],
@@ -83,7 +85,7 @@ pub fn run(
     out: &mut [u8],
 ) -> Done
     requires { ⌜ length (now out) ≡ 4097 ⌝ }
-    ensures { λ r. ⌜ left (keeperOf (r .ledger) (now (clocks .exit)) (now (firsts .exit)) (now (seconds .exit)) (now (input .exit)) (now (blocking .exit)) (now (fast .exit)) (now (generator .exit))) (r .answer) (now (out .exit)) ≡ leaves (keeperOf l (now (clocks .entry)) (now (firsts .entry)) (now (seconds .entry)) (now (input .entry)) (now (blocking .entry)) (now (fast .entry)) (now (generator .entry))) (callOf (now (j .entry)) it) (now (out .entry)) ⌝ }
+    ensures { λ r. ⌜ left (keeperOf (r .ledger) (now (clocks .exit)) (now (firsts .exit)) (now (seconds .exit)) (now (input .exit)) (now (blocking .exit)) (now (fast .exit)) (now (generator .exit))) (r .answer) (now (out .exit)) ≡ leaves (keeperOf l (now (clocks .entry)) (now (firsts .entry)) (now (seconds .entry)) (now (input .entry)) (now (blocking .entry)) (now (fast .entry)) (now (generator .entry))) (callWith (carriedBy (now (j .entry)) it next) it) (now (out .entry)) ⌝ }
 {
     match it {
         Record::Event {
@@ -98,7 +100,7 @@ pub fn run(
             seconds,
             input,
             generator,
-            device as u32,
+            device,
             now,
             stamp,
             value,
@@ -120,19 +122,18 @@ pub fn run(
             stamp,
             address,
         ),
-        Record::Write { now: _, start, len } => write_on(
+        Record::Write { now: _, len } => write_on(
             l,
             firsts,
             seconds,
             input,
             generator,
-            payload(j, start, len),
+            payload(j, next, len),
         ),
         Record::Seed {
             now,
-            credit,
-            start,
             len,
+            credit,
         } => seed_on(
             l,
             firsts,
@@ -140,7 +141,7 @@ pub fn run(
             input,
             generator,
             now,
-            payload(j, start, len),
+            payload(j, next, len),
             credit,
         ),
         Record::Read { now, len } => read_into(l, firsts, seconds, input, generator, now, out, len),

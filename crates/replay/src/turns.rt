@@ -53,6 +53,7 @@ pub fn take_turn(
             let d = run(
                 j,
                 it,
+                next,
                 l,
                 clocks,
                 firsts,
