@@ -130,11 +130,7 @@ pub fn run(
             generator,
             payload(j, next, len),
         ),
-        Record::Seed {
-            now,
-            len,
-            credit,
-        } => seed_on(
+        Record::Seed { now, len, credit } => seed_on(
             l,
             firsts,
             seconds,
