@@ -10,19 +10,18 @@ use lib.Dec.{leb, ltb, eqb}
 use lib.ListN.{length, take, drop, length-take, drop-of-length-le}
 use Rattle.ledger.specs.Choice.{pick}
 use Rattle.ledger.specs.Sizes.{longest}
-use Rattle.ledger.specs.Numbers.{tooLong, cutShort, unknownKind}
+use Rattle.ledger.specs.Numbers.{cutShort, unknownKind}
 use Rattle.journal.specs.Layout.{widths, sum, recordOf, carries}
-use Rattle.journal.specs.Reading.{fieldsIn, opened, front, readAt}
+use Rattle.journal.specs.Reading.{fieldsIn, carrying, opened, front, readAt}
 use Rattle.journal.specs.Cutting.{telling, enough}
 use Rattle.journal.specs.declared.records.Record.{Record}
 use Rattle.journal.specs.declared.records.Found.{Found}
-use Rattle.journal.specs.declared.records.Found.the-variants.{One, Stop, End}
+use Rattle.journal.specs.declared.records.Found.the-variants.{Stop, End}
 use Rattle.journal.proofs.Runs.{drop-take, fields-cut}
 
 -- the tests, over the numbers that they look at
 unfoldable judged : Bool → Record → ℕ → ℕ → ℕ → Found
-judged u r have s start =
-    pick u (Stop unknownKind) (pick (ltb have s) (Stop cutShort) (pick (ltb longest (carries r)) (Stop tooLong) (pick (ltb have (s + carries r)) (Stop cutShort) (One r (start + (s + carries r))))))
+judged u r have s start = pick u (Stop unknownKind) (pick (ltb have s) (Stop cutShort) (carrying r (start + s) (have - s)))
 
 unfoldable needed : Bool → Record → ℕ → ℕ
 needed u r s = pick u 0 (s + pick (ltb longest (carries r)) 0 (carries r))
@@ -32,31 +31,36 @@ unfolding pick
 same-choice true x = refl
 same-choice false x = refl
 
--- a test of how far the bytes go, where the cut is no nearer
-as-far : (n all x : ℕ) → x ≤ n → ltb (min n all) x ≡ ltb all x
-as-far n all x h = by (ltb all x) refl
+-- a test of how many bytes there are, where as many are there for it
+same-test : (have all x : ℕ) → (all < x → have < x) → (x ≤ all → x ≤ have) → ltb have x ≡ ltb all x
+same-test have all x f g = by (ltb all x) refl
   where
-    by : (b : Bool) → ltb all x ≡ b → ltb (min n all) x ≡ b
-    by true e = let k = ltb-true all x e in lt-ltb (min n all) x (omega arith)
-    by false e = let k = ltb-false all x e in le-ltb (min n all) x (omega arith)
+    by : (b : Bool) → ltb all x ≡ b → ltb have x ≡ b
+    by true e = lt-ltb have x (f (ltb-true all x e))
+    by false e = le-ltb have x (g (ltb-false all x e))
 
 -- n bytes of all
 abbrev Fewer : Bool → Record → Record → ℕ → ℕ → ℕ → ℕ → Type 0
 Fewer u r q n all s start = judged u r (min n all) s start ≡ pick (leb (needed u q s) n) (judged u q all s start) (Stop cutShort)
 
 fewer : (u : Bool) (r q : Record) (n all s start : ℕ) → (s ≤ n → r ≡ q) → Fewer u r q n all s start
-unfolding judged needed pick
+unfolding judged needed carrying pick
 fewer true r q n all s start e = rw (le-leb 0 n (omega arith)) refl
 fewer false r q n all s start e = fields (leb s n) refl
   where
+    whole : s ≤ n → ltb (min n all) s ≡ ltb all s
+    whole k = same-test (min n all) all s (λ h. omega arith) (λ h. omega arith)
+
     bytes : (b : Bool) → leb (s + carries q) n ≡ b → s ≤ n → ltb longest (carries q) ≡ false → Fewer false r q n all s start
-    bytes true b k l = rw (e k, l, b, as-far n all s k, as-far n all (s + carries q) (leb-true _ n b)) refl
+    bytes true b k l =
+        let m = leb-true (s + carries q) n b in
+        rw (e k, l, b, whole k, same-test (min n all - s) (all - s) (carries q) (λ h. omega arith) (λ h. omega arith)) refl
     bytes false b k l =
         let m = leb-false (s + carries q) n b in
-        rw (e k, l, b, as-far n all s k, lt-ltb (min n all) (s + carries q) (omega arith)) (same-choice (ltb all s) (Stop cutShort))
+        rw (e k, l, b, whole k, lt-ltb (min n all - s) (carries q) (omega arith)) (same-choice (ltb all s) (Stop cutShort))
 
     long : (b : Bool) → ltb longest (carries q) ≡ b → s ≤ n → Fewer false r q n all s start
-    long true l k = rw (e k, l, as-far n all s k, le-leb (s + 0) n (omega arith)) refl
+    long true l k = rw (e k, l, whole k, le-leb (s + 0) n (omega arith)) refl
     long false l k = bytes (leb (s + carries q) n) refl k l
 
     fields : (b : Bool) → leb s n ≡ b → Fewer false r q n all s start

@@ -10,7 +10,7 @@ use lib.ListN.{length, take, length-take}
 use lib.Seq.{take-all, take-length}
 use Rattle.ledger.specs.Choice.{pick}
 use Rattle.journal.specs.Header.{recordsBegin, headerWithin, headerOf}
-use Rattle.journal.specs.Walking.{Walk, halt, walk, walkOf, endingOf}
+use Rattle.journal.specs.Walking.{Walk, walk, behind, walkOf, endingOf}
 use Rattle.journal.specs.Cutting.{upTo, cutNumber, cutWalk, walkWithin}
 use Rattle.journal.proofs.GoodHeader.{header-good, heading-good, header-cut, header-kept}
 use Rattle.journal.proofs.Walks.{good-walk, bad-walk}
@@ -29,17 +29,16 @@ as-far n j = side (ltb n (length j)) refl
 
 -- THE CUT, of any journal at any byte
 pub cut : (n : ℕ) (j : List ℕ) → walkOf (take n j) ≡ walkWithin (min n (length j)) j
-unfolding walkWithin pick
+unfolding walkWithin behind pick
 cut n j = rw (← header-cut n j) (by (eqb (headerOf (take n j) .number) 0) refl)
   where
-    by : (b : Bool) → eqb (headerOf (take n j) .number) 0 ≡ b
-        → walkOf (take n j) ≡ (let h = headerOf (take n j) in pick b (cutWalk (min n (length j)) (h .version) j (h .place) (walk (h .version) j (h .place))) (halt 0 (h .number)))
+    by : (b : Bool) → eqb (headerOf (take n j) .number) 0 ≡ b → walkOf (take n j) ≡ behind (headerOf (take n j)) (λ v at. cutWalk (min n (length j)) v j at (walk v j at))
     by true e =
         let h = eqb-true (headerOf (take n j) .number) 0 e in
         let w = header-good (take n j) h .there in
         let m : recordsBegin ≤ min n (length j) = omega (arith, w, length-take n j) in
         rw (heading-good (take n j) h) (good-walk (take n j) h ∙ ap (λ (k : List ℕ). walk 1 k recordsBegin) (as-far n j) ∙ walk-cut 1 (min n (length j)) j recordsBegin m)
-    by false e = bad-walk (take n j) (eqb-false (headerOf (take n j) .number) 0 e)
+    by false e = rw e (bad-walk (take n j) (eqb-false (headerOf (take n j) .number) 0 e))
 
 -- its entries, and the number that ends it
 pub cut-entries : (n : ℕ) (j : List ℕ) → walkOf (take n j) .entries ≡ walkWithin (min n (length j)) j .entries

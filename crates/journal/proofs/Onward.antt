@@ -12,7 +12,7 @@ use Rattle.ledger.specs.Choice.{pick}
 use Rattle.ledger.specs.Sizes.{longest}
 use Rattle.ledger.proofs.Picks.{pick-by}
 use Rattle.journal.specs.Layout.{widths, sum, recordOf, carries}
-use Rattle.journal.specs.Reading.{fieldsIn, opened, front, readAt}
+use Rattle.journal.specs.Reading.{fieldsIn, carrying, opened, front, readAt}
 use Rattle.journal.specs.Cutting.{telling, enough}
 use Rattle.journal.specs.declared.records.Record.{Record}
 use Rattle.journal.specs.declared.records.Found.{Found}
@@ -25,7 +25,7 @@ pub record Whole (v kind start : ℕ) (bs : List ℕ) (r : Record) (next : ℕ) 
   pub known : eqb (length (widths v kind)) 0 ≡ false
   pub few : carries r ≤ longest
   pub there : sum (widths v kind) + carries r ≤ length bs
-  pub after : next ≡ start + (sum (widths v kind) + carries r)
+  pub after : next ≡ start + sum (widths v kind) + carries r
 
 abbrev Tells : ℕ → ℕ → ℕ → List ℕ → Found → Type 0
 Tells v kind start bs (One r next) = Whole v kind start bs r next
@@ -33,15 +33,17 @@ Tells v kind start bs (Stop n) = n ≡ 0 → ⊥
 Tells v kind start bs End = ⊥
 
 opened-tells : (v kind start : ℕ) (bs : List ℕ) → Tells v kind start bs (opened v kind start bs)
-unfolding opened
+unfolding opened carrying
 opened-tells v kind start bs =
     let ws = widths v kind in
     let r = recordOf kind (fieldsIn ws bs) in
     pick-by (Tells v kind start bs) (eqb (length ws) 0) (λ e z. omega (arith, z))
     (λ a. pick-by (Tells v kind start bs) (ltb (length bs) (sum ws)) (λ e z. omega (arith, z))
     (λ b. pick-by (Tells v kind start bs) (ltb longest (carries r)) (λ e z. omega (arith, z))
-    (λ c. pick-by (Tells v kind start bs) (ltb (length bs) (sum ws + carries r)) (λ e z. omega (arith, z))
-    (λ d. record { same = refl; known = a; few = ltb-false longest (carries r) c; there = ltb-false (length bs) (sum ws + carries r) d; after = refl }))))
+    (λ c. pick-by (Tells v kind start bs) (ltb (length bs - sum ws) (carries r)) (λ e z. omega (arith, z))
+    (λ d. let m = ltb-false (length bs) (sum ws) b in
+    let n = ltb-false (length bs - sum ws) (carries r) d in
+    record { same = refl; known = a; few = ltb-false longest (carries r) c; there = omega (arith, m, n); after = refl }))))
 
 -- the same at a position of a journal
 pub record Stands (v : ℕ) (j : List ℕ) (at : ℕ) (r : Record) (next : ℕ) : Type 0 where

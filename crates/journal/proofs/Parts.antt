@@ -11,11 +11,11 @@ use lib.ListN.{length, getD, take, drop, length-drop, drop-of-length-le}
 use lib.Seq.{drop-cons, drop-drop, take-add, take-nil, take-all, length-take-le}
 use Rattle.ledger.specs.Choice.{pick}
 use Rattle.ledger.specs.Sizes.{longest}
-use Rattle.ledger.specs.Numbers.{tooLong, cutShort, unknownKind}
+use Rattle.ledger.specs.Numbers.{cutShort, unknownKind}
 use Rattle.words.specs.Bytes.{leNumber}
 use Rattle.words.proofs.Numbers.{leNumber-append}
-use Rattle.journal.specs.Layout.{deviceBytes, widths, sum, recordOf, carries}
-use Rattle.journal.specs.Reading.{num, fieldsIn, opened, readAt}
+use Rattle.journal.specs.Layout.{widths, sum, recordOf, carries}
+use Rattle.journal.specs.Reading.{num, fieldsIn, carrying, opened, readAt}
 use Rattle.journal.specs.declared.records.Record.{Record}
 use Rattle.journal.specs.declared.records.Record.the-variants.{Event, Interrupt, Write, Seed, Read, BlockingRead}
 use Rattle.journal.specs.declared.records.Found.{Found}
@@ -62,7 +62,7 @@ module _ (j : List ℕ) (at : ℕ) where
   on k n m e = let q : at + k + n ≡ at + m = omega arith in drop-drop n (at + k) j ∙ ap (λ (i : ℕ). drop i j) q
 
   pub event-kind : Kind 1 17 j at (Event (num 4 j (at + 1)) (num 1 j (at + 5)) (num 8 j (at + 6)) (num 4 j (at + 14)))
-  unfolding recordOf fieldsIn widths deviceBytes sum pick
+  unfolding recordOf fieldsIn widths sum pick
   event-kind = record { known = refl; size = refl; same = rw (on 1 4 5 refl, on 5 1 6 refl, on 6 8 14 refl) refl }
 
   pub interrupt-kind : Kind 2 24 j at (Interrupt (num 4 j (at + 1)) (num 4 j (at + 5)) (num 8 j (at + 9)) (num 8 j (at + 17)))
@@ -94,23 +94,19 @@ module _ (kind s : ℕ) (j : List ℕ) (at : ℕ) (r : Record) (k : Kind kind s 
   unfolding opened pick
   off h l = let e = left in rw (k .known, k .size, lt-ltb (length (drop (at + 1) j)) s (omega arith)) refl
 
-  module _ (n : ℕ) (bytes : carries r ≡ n) where
-    pub long : at + 1 + s ≤ length j → longest < n → Stop tooLong ≡ opened 1 kind (at + 1) (drop (at + 1) j)
-    unfolding opened pick
-    long h l = let e = left in rw (k .known, k .size, le-ltb (length (drop (at + 1) j)) s (omega arith), k .same, bytes, lt-ltb longest n l) refl
+  pub carried : (f : Found) (q : Record) (start : ℕ) → r ≡ q → at + 1 + s ≤ length j → start ≡ at + 1 + s → f ≡ carrying q start (length j - start)
+      → f ≡ opened 1 kind (at + 1) (drop (at + 1) j)
+  unfolding opened pick
+  carried f q start i h p g =
+      let e = left in
+      let d : length (drop (at + 1) j) - s ≡ length j - start = omega arith in
+      rw (k .known, k .size, le-ltb (length (drop (at + 1) j)) s (omega arith), k .same, i, d, ← p) g
 
-    pub torn : at + 1 + s ≤ length j → n ≤ longest → length j < at + 1 + s + n → Stop cutShort ≡ opened 1 kind (at + 1) (drop (at + 1) j)
-    unfolding opened pick
-    torn h l m =
-        let e = left in
-        rw (k .known, k .size, le-ltb (length (drop (at + 1) j)) s (omega arith), k .same, bytes, le-ltb longest n l, lt-ltb (length (drop (at + 1) j)) (s + n) (omega arith)) refl
-
-    pub full : (q : Record) (next : ℕ) → r ≡ q → n ≤ longest → at + 1 + s + n ≤ length j → next ≡ at + 1 + s + n → One q next ≡ opened 1 kind (at + 1) (drop (at + 1) j)
-    unfolding opened pick
-    full q next i l m a =
-        let e = left in
-        let x : next ≡ at + 1 + (s + n) = omega arith in
-        rw (k .known, k .size, le-ltb (length (drop (at + 1) j)) s (omega arith), k .same, bytes, le-ltb longest n l, le-ltb (length (drop (at + 1) j)) (s + n) (omega arith)) (ap₂ One (sym i) x)
+  pub full : (q : Record) (next : ℕ) → r ≡ q → carries q ≡ 0 → at + 1 + s ≤ length j → next ≡ at + 1 + s → One q next ≡ opened 1 kind (at + 1) (drop (at + 1) j)
+  unfolding carrying pick
+  full q next i z h p =
+      carried (One q next) q next i h p
+      (let o : next ≡ next + 0 = omega arith in rw (z, le-ltb (length j - next) 0 (omega arith)) (ap (One q) o))
 
 -- by the kind that stands there
 pub of-kind : (j : List ℕ) (at k : ℕ) (r : Found) → at < length j → getD j at 0 ≡ k → r ≡ opened 1 k (at + 1) (drop (at + 1) j) → r ≡ readAt 1 j at

@@ -7,11 +7,11 @@ use lib.ListN.{length, replicate}
 use Rattle.ledger.specs.Choice.{pick}
 use Rattle.ledger.specs.Sizes.{startBytes}
 use Rattle.words.specs.Bytes.{leNumber, leBytes}
-use Rattle.journal.specs.Layout.{deviceBytes, widths, sum, kindOf, fieldsOf, recordOf, carries}
-use Rattle.journal.specs.Reading.{fieldsIn, opened, front, readAt}
+use Rattle.journal.specs.Layout.{widths, sum, kindOf, fieldsOf, recordOf, carries}
+use Rattle.journal.specs.Reading.{fieldsIn, carrying, opened, front, readAt}
 use Rattle.journal.specs.Writing.{laid, headOf, bytesOf}
 use Rattle.journal.specs.Header.{largest, heading, refusalWithin, headerWithin, headerOf}
-use Rattle.journal.specs.Walking.{Entry, Walk, walkFrom, walk, walkOf, endingOf}
+use Rattle.journal.specs.Walking.{Entry, Walk, walkFrom, walk, behind, walkOf, endingOf}
 use Rattle.journal.specs.Cutting.{upTo, reached, boundary, telling, enough, cutNumber, cutWalk, walkWithin}
 use Rattle.journal.specs.declared.records.Record.{Record}
 use Rattle.journal.specs.declared.records.Record.the-variants.{Event, Interrupt, Write, Seed, Read, BlockingRead}
@@ -32,15 +32,15 @@ paper : List ℕ
 paper = opening ++ (5 ∷ 0 ∷ 0 ∷ 0 ∷ 0 ∷ 4 ∷ 0 ∷ [])
 
 paper-read : readAt 1 paper 53 ≡ One (Read 0 4) 60
-unfolding paper opening readAt front opened fieldsIn widths deviceBytes sum recordOf carries leNumber pick
+unfolding paper opening readAt front opened carrying fieldsIn widths sum recordOf carries leNumber pick
 paper-read = refl
 
 paper-records : recordsIn (walkOf paper .entries) ≡ Read 0 4 ∷ []
-unfolding paper opening walkOf walk headerOf headerWithin refusalWithin walkFrom readAt front opened fieldsIn widths deviceBytes sum recordOf carries leNumber pick
+unfolding paper opening walkOf behind walk headerOf headerWithin refusalWithin walkFrom readAt front opened carrying fieldsIn widths sum recordOf carries leNumber pick
 paper-records = refl
 
 paper-ends : endingOf paper ≡ 0
-unfolding paper opening walkOf walk headerOf headerWithin refusalWithin walkFrom readAt front opened fieldsIn widths deviceBytes sum recordOf carries leNumber pick
+unfolding paper opening walkOf behind walk headerOf headerWithin refusalWithin walkFrom readAt front opened carrying fieldsIn widths sum recordOf carries leNumber pick
 paper-ends = refl
 
 -- a record of each kind, no two bytes of which are the same within a record: every field is where it is and not another
@@ -56,7 +56,7 @@ each-kind :
     ∷ 6 ∷ 63 ∷ 64 ∷ 65 ∷ 66 ∷ 67 ∷ 68 ∷ [])) .entries)
     ≡ Event 0x04030201 5 0x0d0c0b0a09080706 0x11100f0e ∷ Interrupt 0x15141312 0x19181716 0x21201f1e1d1c1b1a 0x2928272625242322
     ∷ Write 0x2d2c2b2a 2 ∷ Seed 0x33323130 1 0x37363534 ∷ Read 0x3c3b3a39 0x3e3d ∷ BlockingRead 0x4241403f 0x4443 ∷ []
-unfolding opening walkOf walk headerOf headerWithin refusalWithin walkFrom readAt front opened fieldsIn widths deviceBytes sum recordOf carries leNumber pick
+unfolding opening walkOf behind walk headerOf headerWithin refusalWithin walkFrom readAt front opened carrying fieldsIn widths sum recordOf carries leNumber pick
 each-kind = refl
 
 -- ---- the numbers as they are printed
@@ -68,60 +68,60 @@ too-large j h =
 
 -- 8: no bytes; a last letter that is not ours, although no version follows it
 no-mark : endingOf [] ≡ 8
-unfolding walkOf headerOf headerWithin refusalWithin leNumber pick
+unfolding walkOf behind headerOf headerWithin refusalWithin leNumber pick
 no-mark = refl
 
 mark-wrong : endingOf (78 ∷ 75 ∷ 75 ∷ []) ≡ 8
-unfolding walkOf headerOf headerWithin refusalWithin leNumber pick
+unfolding walkOf behind headerOf headerWithin refusalWithin leNumber pick
 mark-wrong = refl
 
 -- 10: half a version
 version-missing : endingOf (78 ∷ 75 ∷ 74 ∷ 1 ∷ []) ≡ 10
-unfolding walkOf headerOf headerWithin refusalWithin leNumber pick
+unfolding walkOf behind headerOf headerWithin refusalWithin leNumber pick
 version-missing = refl
 
 -- 9: version 2, although no start follows it
 version-wrong : endingOf (78 ∷ 75 ∷ 74 ∷ 2 ∷ 0 ∷ []) ≡ 9
-unfolding walkOf headerOf headerWithin refusalWithin leNumber pick
+unfolding walkOf behind headerOf headerWithin refusalWithin leNumber pick
 version-wrong = refl
 
 -- 10: 47 start bytes
 start-missing : endingOf ((78 ∷ 75 ∷ 74 ∷ 1 ∷ 0 ∷ []) ++ replicate 47 0) ≡ 10
-unfolding walkOf headerOf headerWithin refusalWithin leNumber pick
+unfolding walkOf behind headerOf headerWithin refusalWithin leNumber pick
 start-missing = refl
 
 -- 10: a seed of no bytes, whose credit has three bytes of four
 credit-cut : endingOf (opening ++ (4 ∷ 0 ∷ 0 ∷ 0 ∷ 0 ∷ 0 ∷ 0 ∷ 1 ∷ 0 ∷ 0 ∷ [])) ≡ 10
-unfolding opening walkOf walk headerOf headerWithin refusalWithin walkFrom readAt front opened fieldsIn widths deviceBytes sum recordOf carries leNumber pick
+unfolding opening walkOf behind walk headerOf headerWithin refusalWithin walkFrom readAt front opened carrying fieldsIn widths sum recordOf carries leNumber pick
 credit-cut = refl
 
 -- 10: a write of two bytes that has one
 bytes-cut : endingOf (opening ++ (3 ∷ 0 ∷ 0 ∷ 0 ∷ 0 ∷ 2 ∷ 0 ∷ 9 ∷ [])) ≡ 10
-unfolding opening walkOf walk headerOf headerWithin refusalWithin walkFrom readAt front opened fieldsIn widths deviceBytes sum recordOf carries leNumber pick
+unfolding opening walkOf behind walk headerOf headerWithin refusalWithin walkFrom readAt front opened carrying fieldsIn widths sum recordOf carries leNumber pick
 bytes-cut = refl
 
 -- 11: kinds 0 and 7
 kind-0 : endingOf (opening ++ (0 ∷ [])) ≡ 11
-unfolding opening walkOf walk headerOf headerWithin refusalWithin walkFrom readAt front opened fieldsIn widths deviceBytes sum recordOf carries leNumber pick
+unfolding opening walkOf behind walk headerOf headerWithin refusalWithin walkFrom readAt front opened carrying fieldsIn widths sum recordOf carries leNumber pick
 kind-0 = refl
 
 kind-7 : endingOf (opening ++ (7 ∷ [])) ≡ 11
-unfolding opening walkOf walk headerOf headerWithin refusalWithin walkFrom readAt front opened fieldsIn widths deviceBytes sum recordOf carries leNumber pick
+unfolding opening walkOf behind walk headerOf headerWithin refusalWithin walkFrom readAt front opened carrying fieldsIn widths sum recordOf carries leNumber pick
 kind-7 = refl
 
 -- 3: a write of 4,097 bytes, of which none is there
 too-long : endingOf (opening ++ (3 ∷ 0 ∷ 0 ∷ 0 ∷ 0 ∷ 1 ∷ 16 ∷ [])) ≡ 3
-unfolding opening walkOf walk headerOf headerWithin refusalWithin walkFrom readAt front opened fieldsIn widths deviceBytes sum recordOf carries leNumber pick
+unfolding opening walkOf behind walk headerOf headerWithin refusalWithin walkFrom readAt front opened carrying fieldsIn widths sum recordOf carries leNumber pick
 too-long = refl
 
 -- 0: a blocking read of 65,535 bytes is a record like any other
 long-read : recordsIn (walkOf (opening ++ (6 ∷ 1 ∷ 0 ∷ 0 ∷ 0 ∷ 255 ∷ 255 ∷ [])) .entries) ≡ BlockingRead 1 65535 ∷ []
-unfolding opening walkOf walk headerOf headerWithin refusalWithin walkFrom readAt front opened fieldsIn widths deviceBytes sum recordOf carries leNumber pick
+unfolding opening walkOf behind walk headerOf headerWithin refusalWithin walkFrom readAt front opened carrying fieldsIn widths sum recordOf carries leNumber pick
 long-read = refl
 
 -- the records before the end are kept: a write of one byte, and an unknown kind behind it
 kept : recordsIn (walkOf (opening ++ (3 ∷ 0 ∷ 0 ∷ 0 ∷ 0 ∷ 1 ∷ 0 ∷ 9 ∷ 7 ∷ [])) .entries) ≡ Write 0 1 ∷ []
-unfolding opening walkOf walk headerOf headerWithin refusalWithin walkFrom readAt front opened fieldsIn widths deviceBytes sum recordOf carries leNumber pick
+unfolding opening walkOf behind walk headerOf headerWithin refusalWithin walkFrom readAt front opened carrying fieldsIn widths sum recordOf carries leNumber pick
 kept = refl
 
 -- ---- cut at a byte: a write of one byte and an unknown kind, 62 bytes in all
@@ -131,17 +131,17 @@ torn = opening ++ (3 ∷ 0 ∷ 0 ∷ 0 ∷ 0 ∷ 1 ∷ 0 ∷ 9 ∷ 7 ∷ [])
 -- 8 and 10 in the header; 0 right behind it and behind the write; 10 within the write; 11 with the unknown kind
 torn-at : map (λ n. walkWithin n torn .number) (2 ∷ 4 ∷ 52 ∷ 53 ∷ 54 ∷ 60 ∷ 61 ∷ 62 ∷ [])
     ≡ 8 ∷ 10 ∷ 10 ∷ 0 ∷ 10 ∷ 10 ∷ 0 ∷ 11 ∷ []
-unfolding torn opening walkWithin cutWalk cutNumber enough telling upTo reached boundary walk headerWithin refusalWithin walkFrom readAt front opened fieldsIn widths deviceBytes sum recordOf carries leNumber pick
+unfolding torn opening walkWithin behind cutWalk cutNumber enough telling upTo reached boundary walk headerWithin refusalWithin walkFrom readAt front opened carrying fieldsIn widths sum recordOf carries leNumber pick
 torn-at = refl
 
 -- the write is there exactly if its last byte is
 torn-kept : map (λ n. recordsIn (walkWithin n torn .entries)) (60 ∷ 61 ∷ []) ≡ [] ∷ (Write 0 1 ∷ []) ∷ []
-unfolding torn opening walkWithin cutWalk cutNumber enough telling upTo reached boundary walk headerWithin refusalWithin walkFrom readAt front opened fieldsIn widths deviceBytes sum recordOf carries leNumber pick
+unfolding torn opening walkWithin behind cutWalk cutNumber enough telling upTo reached boundary walk headerWithin refusalWithin walkFrom readAt front opened carrying fieldsIn widths sum recordOf carries leNumber pick
 torn-kept = refl
 
 -- a write of 4,097 bytes is told by its seven bytes, and not by six
 torn-long : map (λ n. walkWithin n (opening ++ (3 ∷ 0 ∷ 0 ∷ 0 ∷ 0 ∷ 1 ∷ 16 ∷ 9 ∷ [])) .number) (59 ∷ 60 ∷ []) ≡ 10 ∷ 3 ∷ []
-unfolding opening walkWithin cutWalk cutNumber enough telling upTo reached boundary walk headerWithin refusalWithin walkFrom readAt front opened fieldsIn widths deviceBytes sum recordOf carries leNumber pick
+unfolding opening walkWithin behind cutWalk cutNumber enough telling upTo reached boundary walk headerWithin refusalWithin walkFrom readAt front opened carrying fieldsIn widths sum recordOf carries leNumber pick
 torn-long = refl
 
 -- ---- what the header says, and a record as bytes
@@ -155,5 +155,5 @@ unfolding headerOf headerWithin refusalWithin leNumber pick
 version-2 = refl
 
 event-bytes : bytesOf 1 (Event 1 2 3 4) [] ≡ 1 ∷ 1 ∷ 0 ∷ 0 ∷ 0 ∷ 2 ∷ 3 ∷ 0 ∷ 0 ∷ 0 ∷ 0 ∷ 0 ∷ 0 ∷ 0 ∷ 4 ∷ 0 ∷ 0 ∷ 0 ∷ []
-unfolding bytesOf headOf laid leBytes kindOf fieldsOf widths deviceBytes pick
+unfolding bytesOf headOf laid leBytes kindOf fieldsOf widths pick
 event-bytes = refl

@@ -8,7 +8,7 @@ use lib.ListN.{length}
 use Rattle.ledger.specs.Choice.{pick}
 use Rattle.journal.specs.Reading.{readAt}
 use Rattle.journal.specs.Header.{recordsBegin, headerOf}
-use Rattle.journal.specs.Walking.{entry, Walk, onto, halt, step, walkFrom, walk, walkOf, endingOf}
+use Rattle.journal.specs.Walking.{entry, Walk, onto, halt, step, walkFrom, walk, behind, walkOf, endingOf}
 use Rattle.journal.specs.declared.heading.Heading.{Heading}
 use Rattle.journal.specs.declared.records.Record.{Record}
 use Rattle.journal.specs.declared.records.Found.{Found}
@@ -64,11 +64,11 @@ module _ (v : ℕ) (j : List ℕ) (at : ℕ) where
 -- ---- a whole journal
 module _ (j : List ℕ) where
   pub good-walk : headerOf j .number ≡ 0 → walkOf j ≡ walk 1 j recordsBegin
-  unfolding walkOf pick
+  unfolding walkOf behind pick
   good-walk h = rw (heading-good j h) refl
 
   pub bad-walk : (headerOf j .number ≡ 0 → ⊥) → walkOf j ≡ halt 0 (headerOf j .number)
-  unfolding walkOf pick
+  unfolding walkOf behind pick
   bad-walk h = rw (ne-eqb (headerOf j .number) 0 h) refl
 
 abbrev number : Heading → ℕ

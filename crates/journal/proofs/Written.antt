@@ -11,7 +11,7 @@ use lib.Seq.{drop-append-seam, getD-drop, drop-cons, take-add, drop-drop}
 use Rattle.ledger.specs.Choice.{pick}
 use Rattle.ledger.specs.Sizes.{longest}
 use Rattle.journal.specs.Layout.{widths, sum, kindOf, fieldsOf, recordOf, carries}
-use Rattle.journal.specs.Reading.{fieldsIn, opened, front, readAt}
+use Rattle.journal.specs.Reading.{fieldsIn, carrying, opened, front, readAt}
 use Rattle.journal.specs.Writing.{laid, headOf, bytesOf, carriedBy, Fit, Writable}
 use Rattle.journal.specs.declared.records.Record.{Record}
 use Rattle.journal.specs.declared.records.Record.the-variants.{Event, Interrupt, Write, Seed, Read, BlockingRead}
@@ -52,7 +52,7 @@ held v r h = fitting (widths v (kindOf r)) (fieldsOf r) h (some r)
 -- a record's bytes at the front
 front-written : (v at : ℕ) (r : Record) (carried rest : List ℕ) → Writable v r carried
     → front v at (bytesOf v r carried ++ rest) ≡ One r (at + length (bytesOf v r carried))
-unfolding front opened headOf bytesOf pick
+unfolding front opened carrying headOf bytesOf pick
 front-written v at r carried rest w =
     let ws = widths v (kindOf r) in
     let fs = fieldsOf r in
@@ -62,8 +62,8 @@ front-written v at r carried rest w =
     let n : length (laid ws fs ++ carried) ≡ sum ws + carries r = length-append (laid ws fs) carried ∙ ap₂ _+_ l c in
     let m : length ((laid ws fs ++ carried) ++ rest) ≡ sum ws + carries r + length rest = length-append (laid ws fs ++ carried) rest ∙ ap (λ (k : ℕ). k + length rest) n in
     let a : fieldsIn ws ((laid ws fs ++ carried) ++ rest) ≡ fs = rw (append-assoc (laid ws fs) carried rest) (read-laid ws fs (carried ++ rest) (w .fields)) in
-    let e : at + 1 + (sum ws + carries r) ≡ at + suc (length (laid ws fs ++ carried)) = omega (arith, n) in
-    rw (a, record-fields r, held v r (w .fields), m, le-ltb (sum ws + carries r + length rest) (sum ws) (omega arith), le-ltb longest (carries r) f, le-ltb (sum ws + carries r + length rest) (sum ws + carries r) (omega arith))
+    let e : at + 1 + sum ws + carries r ≡ at + suc (length (laid ws fs ++ carried)) = omega (arith, n) in
+    rw (a, record-fields r, held v r (w .fields), m, le-ltb (sum ws + carries r + length rest) (sum ws) (omega arith), le-ltb longest (carries r) f, le-ltb (sum ws + carries r + length rest - sum ws) (carries r) (omega arith))
     (ap (One r) e)
 
 -- WHAT IS WRITTEN IS READ BACK, whatever stands before and behind it

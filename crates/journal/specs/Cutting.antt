@@ -12,7 +12,7 @@ use Rattle.ledger.specs.Numbers.{cutShort}
 use Rattle.journal.specs.Layout.{widths, sum, recordOf, carries}
 use Rattle.journal.specs.Reading.{fieldsIn}
 use Rattle.journal.specs.Header.{headerWithin}
-use Rattle.journal.specs.Walking.{Entry, Walk, halt, walk}
+use Rattle.journal.specs.Walking.{Entry, Walk, walk, behind}
 
 -- the entries that end at n or before
 unfoldable pub upTo : ℕ → List Entry → List Entry
@@ -44,8 +44,7 @@ enough v (kind ∷ bs) = 1 + telling v kind bs
 
 -- the number that then ends the journal, by the whole's walk from a position on
 unfoldable pub cutNumber : ℕ → ℕ → List ℕ → ℕ → Walk → ℕ
-cutNumber n v j at w =
-    pick (boundary n at (w .entries)) 0 (pick (leb (w .stop + enough v (drop (w .stop) j)) n) (w .number) cutShort)
+cutNumber n v j at w = pick (boundary n at (w .entries)) 0 (pick (leb (w .stop + enough v (drop (w .stop) j)) n) (w .number) cutShort)
 
 -- what n bytes leave of a walk from a position on
 unfoldable pub cutWalk : ℕ → ℕ → List ℕ → ℕ → Walk → Walk
@@ -53,6 +52,4 @@ cutWalk n v j at w = record { entries = upTo n (w .entries); stop = reached at (
 
 -- and of a journal: the header is judged by what is left of it, and so is the size
 unfoldable pub walkWithin : ℕ → List ℕ → Walk
-walkWithin n j =
-    let h = headerWithin n j in
-    pick (eqb (h .number) 0) (cutWalk n (h .version) j (h .place) (walk (h .version) j (h .place))) (halt 0 (h .number))
+walkWithin n j = behind (headerWithin n j) (λ v at. cutWalk n v j at (walk v j at))

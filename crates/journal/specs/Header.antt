@@ -35,9 +35,7 @@ refusalWithin n j =
 
 -- that number, the version, and where the records begin: where it is not 0, no version and no place
 unfoldable pub headerWithin : ℕ → List ℕ → Heading
-headerWithin n j =
-    let m = refusalWithin n j in
-    pick (eqb m 0) (heading 0 (num 2 j 3) recordsBegin) (heading m 0 0)
+headerWithin n j = let m = refusalWithin n j in pick (eqb m 0) (heading 0 (num 2 j 3) recordsBegin) (heading m 0 0)
 
 -- of a whole journal all its bytes are there
 unfoldable pub headerOf : List ℕ → Heading

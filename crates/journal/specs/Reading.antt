@@ -1,6 +1,6 @@
 -- What stands at a position of a journal. The tests come in this order: the kind, whether the fields are whole, the length, whether the
 -- bytes are whole. Nothing is read of a record of which a byte is missing.
-use Prim.Native.Nat.{ℕ, _+_}
+use Prim.Native.Nat.{ℕ, _+_, _-_}
 use mathlib.Core.List.{List, [], _∷_}
 use lib.ListN.{length, take, drop}
 use lib.Dec.{ltb, eqb}
@@ -9,6 +9,7 @@ use Rattle.ledger.specs.Sizes.{longest}
 use Rattle.ledger.specs.Numbers.{tooLong, cutShort, unknownKind}
 use Rattle.words.specs.Bytes.{leNumber}
 use Rattle.journal.specs.Layout.{widths, sum, recordOf, carries}
+use Rattle.journal.specs.declared.records.Record.{Record}
 use Rattle.journal.specs.declared.records.Found.{Found}
 use Rattle.journal.specs.declared.records.Found.the-variants.{One, Stop, End}
 
@@ -21,16 +22,17 @@ unfoldable pub fieldsIn : List ℕ → List ℕ → List ℕ
 fieldsIn [] bs = []
 fieldsIn (w ∷ ws) bs = leNumber (take w bs) ∷ fieldsIn ws (drop w bs)
 
+-- a record whose fields end at a position, with so many bytes left: the length is judged before the bytes are
+unfoldable pub carrying : Record → ℕ → ℕ → Found
+carrying r at left = pick (ltb longest (carries r)) (Stop tooLong) (pick (ltb left (carries r)) (Stop cutShort) (One r (at + carries r)))
+
 -- a record of a kind whose fields begin at a position, with these bytes from there on
 unfoldable pub opened : ℕ → ℕ → ℕ → List ℕ → Found
 opened v kind start bs =
     let ws = widths v kind in
-    let r = recordOf kind (fieldsIn ws bs) in
     pick (eqb (length ws) 0) (Stop unknownKind)
     (pick (ltb (length bs) (sum ws)) (Stop cutShort)
-    (pick (ltb longest (carries r)) (Stop tooLong)
-    (pick (ltb (length bs) (sum ws + carries r)) (Stop cutShort)
-    (One r (start + (sum ws + carries r))))))
+    (carrying (recordOf kind (fieldsIn ws bs)) (start + sum ws) (length bs - sum ws)))
 
 -- what stands at a position, with these bytes from there on
 unfoldable pub front : ℕ → ℕ → List ℕ → Found

@@ -6,6 +6,7 @@ use lib.Dec.{eqb}
 use Rattle.ledger.specs.Choice.{pick}
 use Rattle.journal.specs.Reading.{readAt}
 use Rattle.journal.specs.Header.{headerOf}
+use Rattle.journal.specs.declared.heading.Heading.{Heading}
 use Rattle.journal.specs.declared.records.Record.{Record}
 use Rattle.journal.specs.declared.records.Found.{Found}
 use Rattle.journal.specs.declared.records.Found.the-variants.{One, Stop, End}
@@ -45,9 +46,13 @@ walkFrom (suc f) v j at = step at (readAt v j at) (walkFrom f v j)
 unfoldable pub walk : ℕ → List ℕ → ℕ → Walk
 walk v j at = walkFrom (length j) v j at
 
--- the walk of a journal, from behind its header; where that is not good, no record and its number
+-- a walk from behind a header; where that is not good, no record and its number
+unfoldable pub behind : Heading → (ℕ → ℕ → Walk) → Walk
+behind h w = pick (eqb (h .number) 0) (w (h .version) (h .place)) (halt 0 (h .number))
+
+-- the walk of a journal
 unfoldable pub walkOf : List ℕ → Walk
-walkOf j = let h = headerOf j in pick (eqb (h .number) 0) (walk (h .version) j (h .place)) (halt 0 (h .number))
+walkOf j = behind (headerOf j) (λ v at. walk v j at)
 
 -- the number that a journal ends with. It takes the bytes alone: no keeper, and no answer of one, has a say in where a journal ends.
 abbrev pub endingOf : List ℕ → ℕ

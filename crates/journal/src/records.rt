@@ -1,8 +1,9 @@
 // The records: what stands at a position of a journal, one function for each kind. A record is read only where all its bytes are there.
 ghost use mathlib.Core.Path.{_≡_};
-ghost use Prim.Native.Nat.{_+_, _<_};
+ghost use Prim.Native.Nat.{_+_, _-_, _≤_, _<_};
 ghost use lib.ListN.{length, drop};
-ghost use Rattle.journal.specs.Reading.{readAt, opened};
+ghost use Rattle.journal.specs.Layout.{carries};
+ghost use Rattle.journal.specs.Reading.{readAt, opened, carrying};
 use crate::fields::eight;
 use crate::fields::four;
 use crate::fields::two;
@@ -116,7 +117,21 @@ fn interrupt(j: &[u8], at: usize) -> Found
     )
 }
 
-// Kind 3: the length is judged before the bytes are.
+// A record that carries the `len` bytes from `start` on: the length is judged before the bytes are.
+fn carry(j: &[u8], it: Record, start: usize, len: usize) -> Found
+    requires { ⌜ (start ≤ length (now j)) × (len ≡ carries it) ⌝ }
+    ensures { λ r. ⌜ r ≡ carrying it start (length (now (j .entry)) - start) ⌝ }
+{
+    if len > LONGEST {
+        return Found::Stop(TOO_LONG);
+    }
+    if j.len() - start < len {
+        return Found::Stop(CUT_SHORT);
+    }
+    Found::One(it, start + len)
+}
+
+// Kind 3.
 fn write(j: &[u8], at: usize) -> Found
     requires { ⌜ at < length (now j) ⌝ }
     ensures { λ r. ⌜ r ≡ opened 1 3 (at + 1) (drop (at + 1) (now (j .entry))) ⌝ }
@@ -126,13 +141,7 @@ fn write(j: &[u8], at: usize) -> Found
     }
     let now = four(j, at + 1);
     let len = two(j, at + 5) as usize;
-    if len > LONGEST {
-        return Found::Stop(TOO_LONG);
-    }
-    if j.len() - at < 7 + len {
-        return Found::Stop(CUT_SHORT);
-    }
-    Found::One(Record::Write { now, len }, at + 7 + len)
+    carry(j, Record::Write { now, len }, at + 7, len)
 }
 
 // Kind 4. The credit stands between the length and the bytes.
@@ -146,13 +155,7 @@ fn seed(j: &[u8], at: usize) -> Found
     let now = four(j, at + 1);
     let len = two(j, at + 5) as usize;
     let credit = four(j, at + 7);
-    if len > LONGEST {
-        return Found::Stop(TOO_LONG);
-    }
-    if j.len() - at < 11 + len {
-        return Found::Stop(CUT_SHORT);
-    }
-    Found::One(Record::Seed { now, len, credit }, at + 11 + len)
+    carry(j, Record::Seed { now, len, credit }, at + 11, len)
 }
 
 // Kind 5. Its length may be any: what is too long to read is an answer of the keeper, and ends nothing.

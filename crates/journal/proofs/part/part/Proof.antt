@@ -10,7 +10,10 @@ slice-aggregate-result : tie.Need-slice-aggregate-result
 slice-aggregate-result c = search needs
 
 returns : tie.Need-returns
-returns c = let a = c .before .before .args in beyond (now (a .j)) (a .start) (a .len) (c .before .if1 .taken)
+returns c =
+    let then1 : tie.Then1 = search in
+    let start : tie.Start = search in
+    let a = start .args in beyond (now (a .j)) (a .start) (a .len) (then1 .if1 .taken)
 
 sub-if2 : tie.Need-sub-if2
 sub-if2 c = search needs
@@ -25,7 +28,9 @@ part-result-end : tie.Need-part-result-end
 part-result-end c = search needs
 
 returns-2 : tie.Need-returns-2
-returns-2 c = let a = c .before .before .before .args in up-to-the-end (now (a .j)) (a .start) (a .len) (omega arith)
+returns-2 c =
+    let start : tie.Start = search in
+    let a = start .args in up-to-the-end (now (a .j)) (a .start) (a .len) (omega arith)
 
 add-result : tie.Need-add-result
 add-result c = search needs
@@ -40,7 +45,9 @@ part-result-end-2 : tie.Need-part-result-end-2
 part-result-end-2 c = search needs
 
 returns-3 : tie.Need-returns-3
-returns-3 c = let a = c .before .before .before .args in rw (add-sub-cancel-left (a .start) (a .len))
+returns-3 c =
+    let start : tie.Start = search in
+    let a = start .args in rw (add-sub-cancel-left (a .start) (a .len))
 
 pub part-spec : {M : Type 1} → statement M
 part-spec =

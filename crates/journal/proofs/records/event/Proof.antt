@@ -50,7 +50,7 @@ returns-2 c =
     let j = s .args .j .now in
     let at = s .args .at in
     let d = num-1 j (at + 5) (omega arith) in
-    full _ _ j at _ (event-kind j at) 0 refl _ _ (cc) (omega arith) (omega arith) (omega arith)
+    full _ _ j at _ (event-kind j at) _ _ (cc) refl (omega arith) (omega arith)
 
 pub event-spec : {M : Type 1} → statement M
 event-spec =

@@ -33,7 +33,7 @@ returns-2 c =
     let s : tie.Start = search in
     let j = s .args .j .now in
     let at = s .args .at in
-    full _ _ j at _ (read-kind j at) 0 refl _ _ (cc) (omega arith) (omega arith) (omega arith)
+    full _ _ j at _ (read-kind j at) _ _ (cc) refl (omega arith) (omega arith)
 
 pub generator-read-spec : {M : Type 1} → statement M
 generator-read-spec =

@@ -1,8 +1,5 @@
-use mathlib.Core.Path.{refl}
-use Prim.Native.Nat.{_+_}
 use Rattle.journal.specs.Layout.{carries}
-use Rattle.journal.specs.Reading.{num}
-use Rattle.journal.proofs.Parts.{off, long, torn, full, seed-kind}
+use Rattle.journal.proofs.Parts.{off, carried, seed-kind}
 use native.Mathlib.Omega.{arith}
 use borrow.Author.Needs.{needs}
 use Rattle.journal.proofs.records.seed.Statement.{statement}
@@ -35,41 +32,19 @@ add-four-2 c = search needs
 four-requires-2 : tie.Need-four-requires-2
 four-requires-2 c κs = search needs
 
-returns-2 : tie.Need-returns-2
+add-carry : tie.Need-add-carry
+add-carry c = search needs
+
+carry-requires : tie.Need-carry-requires
 unfolding carries
+carry-requires c κs = search needs
+
+returns-2 : tie.Need-returns-2
 returns-2 c =
     let s : tie.Start = search in
     let j = s .args .j .now in
     let at = s .args .at in
-    long _ _ j at _ (seed-kind j at) (num 2 j (at + 5)) refl (omega arith) (omega arith)
-
-sub-if3 : tie.Need-sub-if3
-sub-if3 c = search needs
-
-add-if3 : tie.Need-add-if3
-add-if3 c = search needs
-
-returns-3 : tie.Need-returns-3
-unfolding carries
-returns-3 c =
-    let s : tie.Start = search in
-    let j = s .args .j .now in
-    let at = s .args .at in
-    torn _ _ j at _ (seed-kind j at) (num 2 j (at + 5)) refl (omega arith) (omega arith) (omega arith)
-
-add-t6 : tie.Need-add-t6
-add-t6 c = search needs
-
-add-t7 : tie.Need-add-t7
-add-t7 c = search needs
-
-returns-4 : tie.Need-returns-4
-unfolding carries
-returns-4 c =
-    let s : tie.Start = search in
-    let j = s .args .j .now in
-    let at = s .args .at in
-    full _ _ j at _ (seed-kind j at) (num 2 j (at + 5)) refl _ _ (cc) (omega arith) (omega arith) (omega arith)
+    carried _ _ j at _ (seed-kind j at) _ _ _ (cc) (omega arith) (omega arith) (c .carry .ensures)
 
 pub seed-spec : {M : Type 1} → statement M
 seed-spec =
@@ -84,10 +59,6 @@ seed-spec =
     cast-len
     add-four-2
     four-requires-2
-    returns-2
-    sub-if3
-    add-if3
-    returns-3
-    add-t6
-    add-t7
-    returns-4)
+    add-carry
+    carry-requires
+    returns-2)

@@ -1,8 +1,5 @@
-use mathlib.Core.Path.{refl}
-use Prim.Native.Nat.{_+_}
 use Rattle.journal.specs.Layout.{carries}
-use Rattle.journal.specs.Reading.{num}
-use Rattle.journal.proofs.Parts.{off, long, torn, full, write-kind}
+use Rattle.journal.proofs.Parts.{off, carried, write-kind}
 use native.Mathlib.Omega.{arith}
 use borrow.Author.Needs.{needs}
 use Rattle.journal.proofs.records.write.Statement.{statement}
@@ -29,41 +26,19 @@ two-requires c κs = search needs
 cast-len : tie.Need-cast-len
 cast-len c = search needs
 
-returns-2 : tie.Need-returns-2
+add-carry : tie.Need-add-carry
+add-carry c = search needs
+
+carry-requires : tie.Need-carry-requires
 unfolding carries
+carry-requires c κs = search needs
+
+returns-2 : tie.Need-returns-2
 returns-2 c =
     let s : tie.Start = search in
     let j = s .args .j .now in
     let at = s .args .at in
-    long _ _ j at _ (write-kind j at) (num 2 j (at + 5)) refl (omega arith) (omega arith)
-
-sub-if3 : tie.Need-sub-if3
-sub-if3 c = search needs
-
-add-if3 : tie.Need-add-if3
-add-if3 c = search needs
-
-returns-3 : tie.Need-returns-3
-unfolding carries
-returns-3 c =
-    let s : tie.Start = search in
-    let j = s .args .j .now in
-    let at = s .args .at in
-    torn _ _ j at _ (write-kind j at) (num 2 j (at + 5)) refl (omega arith) (omega arith) (omega arith)
-
-add-t6 : tie.Need-add-t6
-add-t6 c = search needs
-
-add-t5 : tie.Need-add-t5
-add-t5 c = search needs
-
-returns-4 : tie.Need-returns-4
-unfolding carries
-returns-4 c =
-    let s : tie.Start = search in
-    let j = s .args .j .now in
-    let at = s .args .at in
-    full _ _ j at _ (write-kind j at) (num 2 j (at + 5)) refl _ _ (cc) (omega arith) (omega arith) (omega arith)
+    carried _ _ j at _ (write-kind j at) _ _ _ (cc) (omega arith) (omega arith) (c .carry .ensures)
 
 pub write-spec : {M : Type 1} → statement M
 write-spec =
@@ -76,10 +51,6 @@ write-spec =
     add-two
     two-requires
     cast-len
-    returns-2
-    sub-if3
-    add-if3
-    returns-3
-    add-t6
-    add-t5
-    returns-4)
+    add-carry
+    carry-requires
+    returns-2)
