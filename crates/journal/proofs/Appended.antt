@@ -8,7 +8,8 @@ use borrow.Author.Tests.{eqb-true, eqb-false}
 use lib.Dec.{eqb}
 use lib.ListN.{length}
 use Rattle.journal.specs.Header.{largest, recordsBegin, headerOf}
-use Rattle.journal.specs.Walking.{entry, Walk, onto, walk, walkOf, endingOf, joined}
+use Rattle.journal.specs.Walking.{entry, Walk, onto, walk, walkOf, endingOf}
+use Rattle.journal.specs.Writing.{joined}
 use Rattle.journal.specs.declared.heading.Heading.{Heading}
 use Rattle.journal.proofs.Onward.{read-ahead, stop-not-0, end-past}
 use Rattle.journal.proofs.Told.{read-on}

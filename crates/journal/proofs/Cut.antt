@@ -1,6 +1,6 @@
 -- What stands at a position of a journal that is cut: the same as in the whole where enough is left to tell, else it is cut short. So no byte
 -- behind a record's own has a say in it.
-use mathlib.Core.Path.{_≡_, refl, sym, ap, _∙_}
+use mathlib.Core.Path.{_≡_, refl, ap}
 use mathlib.Core.Bool.{Bool, true, false}
 use mathlib.Core.List.{List, [], _∷_}
 use Prim.Native.Nat.{ℕ, suc, _+_, _-_, _≤_, _<_, min}

@@ -9,7 +9,7 @@ use lib.Dec.{ltb, eqb}
 use lib.ListN.{length, take, length-take}
 use lib.Seq.{take-all, take-length}
 use Rattle.ledger.specs.Choice.{pick}
-use Rattle.journal.specs.Header.{recordsBegin, headerWithin, headerOf}
+use Rattle.journal.specs.Header.{recordsBegin, headerOf}
 use Rattle.journal.specs.Walking.{Walk, walk, behind, walkOf, endingOf}
 use Rattle.journal.specs.Cutting.{upTo, cutNumber, cutWalk, walkWithin}
 use Rattle.journal.proofs.GoodHeader.{header-good, heading-good, header-cut, header-kept}

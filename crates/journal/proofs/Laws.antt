@@ -1,7 +1,7 @@
 -- What the crates above may cite of the bytes that a record carries, and of the start bytes. Each follows from the definitions alone.
 use mathlib.Core.Path.{_≡_, sym}
 use mathlib.Core.List.{List, _++_}
-use Prim.Native.Nat.{ℕ, _+_, _-_, _≤_}
+use Prim.Native.Nat.{ℕ, _-_, _≤_}
 use native.Mathlib.Omega.{arith}
 use lib.ListN.{length, take, drop, length-take, length-drop}
 use lib.Seq.{length-take-le, take-append-seam}
@@ -9,7 +9,7 @@ use Rattle.ledger.specs.Sizes.{longest, startBytes}
 use Rattle.journal.specs.Layout.{carries}
 use Rattle.journal.specs.Reading.{readAt}
 use Rattle.journal.specs.Writing.{carriedBy}
-use Rattle.journal.specs.Header.{recordsBegin, headerOf, startOf}
+use Rattle.journal.specs.Header.{headerOf, startOf}
 use Rattle.journal.specs.declared.records.Record.{Record}
 use Rattle.journal.specs.declared.records.Found.the-variants.{One}
 use Rattle.journal.proofs.Runs.{part-cut}

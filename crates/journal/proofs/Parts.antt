@@ -10,7 +10,6 @@ use lib.Dec.{eqb}
 use lib.ListN.{length, getD, take, drop, length-drop, drop-of-length-le}
 use lib.Seq.{drop-cons, drop-drop, take-add, take-nil, take-all, length-take-le}
 use Rattle.ledger.specs.Choice.{pick}
-use Rattle.ledger.specs.Sizes.{longest}
 use Rattle.ledger.specs.Numbers.{cutShort, unknownKind}
 use Rattle.words.specs.Bytes.{leNumber}
 use Rattle.words.proofs.Numbers.{leNumber-append}

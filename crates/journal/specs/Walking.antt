@@ -1,6 +1,6 @@
 -- The walk: record by record from a position on, up to the first where no record stands. What a journal has and how it ends is read off it.
 use Prim.Native.Nat.{ℕ, zero, suc}
-use mathlib.Core.List.{List, [], _∷_, _++_}
+use mathlib.Core.List.{List, [], _∷_}
 use lib.ListN.{length}
 use lib.Dec.{eqb}
 use Rattle.ledger.specs.Choice.{pick}
@@ -57,7 +57,3 @@ walkOf j = behind (headerOf j) (λ v at. walk v j at)
 -- the number that a journal ends with. It takes the bytes alone: no keeper, and no answer of one, has a say in where a journal ends.
 abbrev pub endingOf : List ℕ → ℕ
 endingOf j = walkOf j .number
-
--- one walk, and another that begins where it stops
-abbrev pub joined : Walk → Walk → Walk
-joined a b = record { entries = a .entries ++ b .entries; stop = b .stop; number = b .number }

@@ -6,7 +6,7 @@ use lib.ListN.{length, take, drop}
 use Rattle.ledger.specs.Sizes.{longest}
 use Rattle.words.specs.Bytes.{leBytes}
 use Rattle.journal.specs.Layout.{widths, kindOf, fieldsOf, carries}
-use Rattle.journal.specs.Walking.{Entry}
+use Rattle.journal.specs.Walking.{Entry, Walk}
 use Rattle.journal.specs.declared.records.Record.{Record}
 
 -- fields laid out in these widths, one after another
@@ -57,3 +57,7 @@ written v (s ∷ ss) = bytesOf v (s .what) (s .carried) ++ written v ss
 unfoldable pub AllWritable : ℕ → List Said → Type 0
 AllWritable v [] = Unit
 AllWritable v (s ∷ ss) = Writable v (s .what) (s .carried) × AllWritable v ss
+
+-- ---- one walk, and another that begins where it stops: what a journal has that is written on
+abbrev pub joined : Walk → Walk → Walk
+joined a b = record { entries = a .entries ++ b .entries; stop = b .stop; number = b .number }

@@ -1,6 +1,6 @@
 -- A journal that is cut anywhere: what its earlier records did stays, and nothing else is done. Its replay makes the calls of those records of
 -- the whole that end within the cut, writes their lines and leaves the keeper that they leave.
-use mathlib.Core.Path.{_≡_, refl, sym, ap, ap₂, _∙_}
+use mathlib.Core.Path.{_≡_, refl, ap, ap₂, _∙_}
 use mathlib.Core.Bool.{Bool, true, false}
 use mathlib.Core.List.{List, [], _∷_, _++_, map}
 use Prim.Native.Nat.{ℕ, zero, suc, min}

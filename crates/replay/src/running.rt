@@ -1,8 +1,9 @@
 // One record run on a keeper.
 ghost use mathlib.Core.Path.{_≡_};
 ghost use mathlib.Core.List.{List};
-ghost use Prim.Native.Nat.{ℕ, min};
+ghost use Prim.Native.Nat.{ℕ, _+_, min};
 ghost use lib.ListN.{length};
+ghost use Rattle.ledger.specs.Sizes.{longest};
 ghost use Rattle.keeper.specs.Calls.{generatorRead, blockingReadOf};
 ghost use Rattle.steps.specs.Promise.{keeperOf, left, leaves};
 ghost use Rattle.journal.specs.Writing.{carriedBy};
@@ -10,6 +11,7 @@ ghost use Rattle.replay.specs.Running.{callWith};
 use journal::Record;
 use journal::payload;
 use ledger::Ledger;
+use ledger::sizes::LONGEST;
 use steps::Done;
 use steps::blocking_read_on;
 use steps::event_on;
@@ -18,11 +20,14 @@ use steps::read_on;
 use steps::seed_on;
 use steps::write_on;
 
-// A room for a read of any length: over 4,096 bytes a read is refused, whatever its length, so one byte more than that is enough.
+// A room for a read of any length: a read of more than the longest is refused, whatever its length, so one byte more is enough.
+pub const OUT_ROOM: usize = LONGEST + 1;
+
 fn room_for(len: u32) -> usize
-    ensures { λ r. ⌜ r ≡ min len 4097 ⌝ }
+    ensures { λ r. ⌜ r ≡ min len (longest + 1) ⌝ }
 {
-    if len < 4097 { len as usize } else { 4097 }
+    let n = len as usize;
+    if n < OUT_ROOM { n } else { OUT_ROOM }
 }
 
 // A generator read of len bytes.
@@ -36,7 +41,7 @@ fn read_into(
     out: &mut [u8],
     len: u32,
 ) -> Done
-    requires { ⌜ length (now out) ≡ 4097 ⌝ }
+    requires { ⌜ length (now out) ≡ longest + 1 ⌝ }
     ensures { λ r. ⌜ ((clocks blocking fast : List ℕ) → left (keeperOf (r .ledger) clocks (now (firsts .entry)) (now (seconds .entry)) (now (input .exit)) blocking fast (now (generator .exit))) (r .answer) (now (out .exit)) ≡ leaves (keeperOf l clocks (now (firsts .entry)) (now (seconds .entry)) (now (input .entry)) blocking fast (now (generator .entry))) (generatorRead at len) (now (out .entry))) ⌝ }
 {
     let n = room_for(len);
@@ -54,7 +59,7 @@ fn blocking_read_into(
     out: &mut [u8],
     len: u32,
 ) -> Done
-    requires { ⌜ length (now out) ≡ 4097 ⌝ }
+    requires { ⌜ length (now out) ≡ longest + 1 ⌝ }
     ensures { λ r. ⌜ ((clocks fast : List ℕ) → left (keeperOf (r .ledger) clocks (now (firsts .entry)) (now (seconds .entry)) (now (input .exit)) (now (blocking .exit)) fast (now (generator .entry))) (r .answer) (now (out .exit)) ≡ leaves (keeperOf l clocks (now (firsts .entry)) (now (seconds .entry)) (now (input .entry)) (now (blocking .entry)) fast (now (generator .entry))) (blockingReadOf len) (now (out .entry))) ⌝ }
 {
     let n = room_for(len);
@@ -84,7 +89,7 @@ pub fn run(
     generator: &mut [u32; 16],
     out: &mut [u8],
 ) -> Done
-    requires { ⌜ length (now out) ≡ 4097 ⌝ }
+    requires { ⌜ length (now out) ≡ longest + 1 ⌝ }
     ensures { λ r. ⌜ left (keeperOf (r .ledger) (now (clocks .exit)) (now (firsts .exit)) (now (seconds .exit)) (now (input .exit)) (now (blocking .exit)) (now (fast .exit)) (now (generator .exit))) (r .answer) (now (out .exit)) ≡ leaves (keeperOf l (now (clocks .entry)) (now (firsts .entry)) (now (seconds .entry)) (now (input .entry)) (now (blocking .entry)) (now (fast .entry)) (now (generator .entry))) (callWith (carriedBy (now (j .entry)) it next) it) (now (out .entry)) ⌝ }
 {
     match it {

@@ -1,4 +1,3 @@
-use mathlib.Core.Path.{_≡_, sym, _∙_}
 use Rattle.journal.proofs.GoodHeader.{said-bad, said-good}
 use borrow.Author.Needs.{needs}
 use Rattle.journal.proofs.heading.header.Statement.{statement}
