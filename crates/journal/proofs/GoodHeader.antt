@@ -15,7 +15,7 @@ use Rattle.words.specs.Bytes.{leNumber}
 use Rattle.journal.specs.Reading.{num}
 use Rattle.journal.specs.Header.{largest, recordsBegin, heading, refusalWithin, headerWithin, headerOf}
 use Rattle.journal.specs.declared.heading.Heading.{Heading}
-use Rattle.journal.proofs.Runs.{part-cut}
+use Rattle.journal.proofs.Runs.{payload-cut}
 
 -- n bytes of a good header's journal
 pub record GoodHeader (n : ℕ) (j : List ℕ) : Type 0 where
@@ -157,7 +157,7 @@ module _ (n : ℕ) (i k : List ℕ) (same : (at : ℕ) → at < n → getD i at 
       by false e = rw (by-five, e) refl
 
 version-cut : (n : ℕ) (j : List ℕ) → 5 ≤ n → num 2 (take n j) 3 ≡ num 2 j 3
-version-cut n j h = ap leNumber (part-cut n j 3 2 h)
+version-cut n j h = ap leNumber (payload-cut n j 3 2 h)
 
 -- THE HEADER of a journal that is cut is that of the whole, with so many bytes there
 pub header-cut : (n : ℕ) (j : List ℕ) → headerOf (take n j) ≡ headerWithin (min n (length j)) j

@@ -52,8 +52,8 @@ drop-take (suc m) (suc n) [] = sym (take-nil (suc n - suc m))
 drop-take (suc m) (suc n) (x ∷ l) = let e : suc n - suc m ≡ n - m = omega arith in rw e (drop-take m n l)
 
 -- what stands before the cut has the same bytes after it
-pub part-cut : (n : ℕ) (j : List ℕ) (at len : ℕ) → at + len ≤ n → take len (drop at (take n j)) ≡ take len (drop at j)
-part-cut n j at len h = rw (drop-take at n j) (take-take len (n - at) (drop at j) (omega arith))
+pub payload-cut : (n : ℕ) (j : List ℕ) (at len : ℕ) → at + len ≤ n → take len (drop at (take n j)) ≡ take len (drop at j)
+payload-cut n j at len h = rw (drop-take at n j) (take-take len (n - at) (drop at j) (omega arith))
 
 -- bytes behind the fields have no say in them
 pub fields-cut : (ws : List ℕ) (n : ℕ) (bs : List ℕ) → sum ws ≤ n → fieldsIn ws (take n bs) ≡ fieldsIn ws bs

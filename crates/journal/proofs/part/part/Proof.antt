@@ -1,4 +1,3 @@
-use denote.Ref.{now}
 use Rattle.journal.proofs.Parts.{beyond, up-to-the-end}
 use native.Mathlib.Nat.{add-sub-cancel-left}
 use native.Mathlib.Omega.{arith}
@@ -11,9 +10,9 @@ slice-aggregate-result c = search needs
 
 returns : tie.Need-returns
 returns c =
-    let then1 : tie.Then1 = search in
     let start : tie.Start = search in
-    let a = start .args in beyond (now (a .j)) (a .start) (a .len) (then1 .if1 .taken)
+    let a = start .args in
+    beyond (a .j .now) (a .start) (a .len) (search)
 
 sub-if2 : tie.Need-sub-if2
 sub-if2 c = search needs
@@ -30,7 +29,8 @@ part-result-end c = search needs
 returns-2 : tie.Need-returns-2
 returns-2 c =
     let start : tie.Start = search in
-    let a = start .args in up-to-the-end (now (a .j)) (a .start) (a .len) (omega arith)
+    let a = start .args in
+    up-to-the-end (a .j .now) (a .start) (a .len) (omega arith)
 
 add-result : tie.Need-add-result
 add-result c = search needs
@@ -47,7 +47,7 @@ part-result-end-2 c = search needs
 returns-3 : tie.Need-returns-3
 returns-3 c =
     let start : tie.Start = search in
-    let a = start .args in rw (add-sub-cancel-left (a .start) (a .len))
+    rw (add-sub-cancel-left (start .args .start) (start .args .len))
 
 pub part-spec : {M : Type 1} → statement M
 part-spec =

@@ -31,22 +31,22 @@ blocking-read-requires : tie.Need-blocking-read-requires
 blocking-read-requires c κs = search needs
 
 returns-2 : tie.Need-returns-2
-returns-2 c = of-kind _ _ 1 _ (omega arith) (c .before .match .keys1) (c .event .ensures)
+returns-2 c = of-kind _ _ 1 _ (omega arith) (search) (c .event .ensures)
 
 returns-3 : tie.Need-returns-3
-returns-3 c = of-kind _ _ 2 _ (omega arith) (c .before .match .keys2) (c .interrupt .ensures)
+returns-3 c = of-kind _ _ 2 _ (omega arith) (search) (c .interrupt .ensures)
 
 returns-4 : tie.Need-returns-4
-returns-4 c = of-kind _ _ 3 _ (omega arith) (c .before .match .keys3) (c .write .ensures)
+returns-4 c = of-kind _ _ 3 _ (omega arith) (search) (c .write .ensures)
 
 returns-5 : tie.Need-returns-5
-returns-5 c = of-kind _ _ 4 _ (omega arith) (c .before .match .keys4) (c .seed .ensures)
+returns-5 c = of-kind _ _ 4 _ (omega arith) (search) (c .seed .ensures)
 
 returns-6 : tie.Need-returns-6
-returns-6 c = of-kind _ _ 5 _ (omega arith) (c .before .match .keys5) (c .generator-read .ensures)
+returns-6 c = of-kind _ _ 5 _ (omega arith) (search) (c .generator-read .ensures)
 
 returns-7 : tie.Need-returns-7
-returns-7 c = of-kind _ _ 6 _ (omega arith) (c .before .match .keys6) (c .blocking-read .ensures)
+returns-7 c = of-kind _ _ 6 _ (omega arith) (search) (c .blocking-read .ensures)
 
 returns-8 : tie.Need-returns-8
 returns-8 c =
