@@ -9,7 +9,7 @@ use Rattle.ledger.specs.Sizes.{startBytes}
 use Rattle.words.specs.Bytes.{leNumber, leBytes}
 use Rattle.journal.specs.Layout.{widths, sum, kindOf, fieldsOf, recordOf, carries}
 use Rattle.journal.specs.Reading.{fieldsIn, carrying, opened, front, readAt}
-use Rattle.journal.specs.Writing.{laid, headOf, bytesOf}
+use Rattle.journal.specs.Writing.{laid, headOf, bytesOf, carriedBy}
 use Rattle.journal.specs.Header.{largest, heading, refusalWithin, headerWithin, headerOf}
 use Rattle.journal.specs.Walking.{Entry, Walk, walkFrom, walk, behind, walkOf, endingOf}
 use Rattle.journal.specs.Cutting.{upTo, reached, boundary, telling, enough, cutNumber, cutWalk, walkWithin}
@@ -44,20 +44,27 @@ unfolding paper opening walkOf behind walk headerOf headerWithin refusalWithin w
 paper-ends = refl
 
 -- a record of each kind, no two bytes of which are the same within a record: every field is where it is and not another
-each-kind :
-    recordsIn
-    (walkOf
-    (opening
+kinds : List ℕ
+kinds =
+    opening
     ++ (1 ∷ 1 ∷ 2 ∷ 3 ∷ 4 ∷ 5 ∷ 6 ∷ 7 ∷ 8 ∷ 9 ∷ 10 ∷ 11 ∷ 12 ∷ 13 ∷ 14 ∷ 15 ∷ 16 ∷ 17
     ∷ 2 ∷ 18 ∷ 19 ∷ 20 ∷ 21 ∷ 22 ∷ 23 ∷ 24 ∷ 25 ∷ 26 ∷ 27 ∷ 28 ∷ 29 ∷ 30 ∷ 31 ∷ 32 ∷ 33 ∷ 34 ∷ 35 ∷ 36 ∷ 37 ∷ 38 ∷ 39 ∷ 40 ∷ 41
     ∷ 3 ∷ 42 ∷ 43 ∷ 44 ∷ 45 ∷ 2 ∷ 0 ∷ 46 ∷ 47
     ∷ 4 ∷ 48 ∷ 49 ∷ 50 ∷ 51 ∷ 1 ∷ 0 ∷ 52 ∷ 53 ∷ 54 ∷ 55 ∷ 56
     ∷ 5 ∷ 57 ∷ 58 ∷ 59 ∷ 60 ∷ 61 ∷ 62
-    ∷ 6 ∷ 63 ∷ 64 ∷ 65 ∷ 66 ∷ 67 ∷ 68 ∷ [])) .entries)
+    ∷ 6 ∷ 63 ∷ 64 ∷ 65 ∷ 66 ∷ 67 ∷ 68 ∷ [])
+
+each-kind : recordsIn (walkOf kinds .entries)
     ≡ Event 0x04030201 5 0x0d0c0b0a09080706 0x11100f0e ∷ Interrupt 0x15141312 0x19181716 0x21201f1e1d1c1b1a 0x2928272625242322
     ∷ Write 0x2d2c2b2a 2 ∷ Seed 0x33323130 1 0x37363534 ∷ Read 0x3c3b3a39 0x3e3d ∷ BlockingRead 0x4241403f 0x4443 ∷ []
-unfolding opening walkOf behind walk headerOf headerWithin refusalWithin walkFrom readAt front opened carrying fieldsIn widths sum recordOf carries leNumber pick
+unfolding kinds opening walkOf behind walk headerOf headerWithin refusalWithin walkFrom readAt front opened carrying fieldsIn widths sum recordOf carries leNumber pick
 each-kind = refl
+
+-- and so are the bytes that a write and a seed carry
+each-carried : map (λ (e : Entry). carriedBy kinds (e .what) (e .next)) (walkOf kinds .entries)
+    ≡ [] ∷ [] ∷ (46 ∷ 47 ∷ []) ∷ (56 ∷ []) ∷ [] ∷ [] ∷ []
+unfolding kinds opening carriedBy walkOf behind walk headerOf headerWithin refusalWithin walkFrom readAt front opened carrying fieldsIn widths sum recordOf carries leNumber pick
+each-carried = refl
 
 -- ---- the numbers as they are printed
 -- 12: any bytes, if there are more than 61,440 of them
