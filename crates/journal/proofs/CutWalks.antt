@@ -6,77 +6,85 @@ use Prim.Native.Nat.{ℕ, _+_, _≤_, _<_}
 use native.Mathlib.Omega.{arith}
 use borrow.Author.Tests.{leb-true, leb-false, ltb-true, ltb-false, le-leb, lt-leb, eq-eqb, ne-eqb}
 use lib.Dec.{leb, ltb}
-use lib.ListN.{length, take}
+use lib.ListN.{length, take, drop}
 use Rattle.ledger.specs.Choice.{pick}
 use Rattle.ledger.specs.Numbers.{cutShort}
-use Rattle.journal.specs.Records.{readAt}
+use Rattle.journal.specs.Reading.{readAt}
 use Rattle.journal.specs.Walking.{Entry, entry, onto, halt, walk}
 use Rattle.journal.specs.Cutting.{upTo, reached, boundary, enough, cutNumber, cutWalk}
 use Rattle.journal.specs.declared.records.Record.{Record}
 use Rattle.journal.specs.declared.records.Found.the-variants.{One, Stop, End}
-use Rattle.journal.proofs.Laws.{read-ahead}
-use Rattle.journal.proofs.Told.{told-by, end-past, none-to-tell, read-kept, read-off, read-none, read-shorter}
+use Rattle.journal.proofs.Onward.{read-ahead, told-by, end-past}
+use Rattle.journal.proofs.Told.{none-to-tell, read-kept, read-off, read-none, read-shorter}
 use Rattle.journal.proofs.Walks.{along, walk-one, walk-stop, walk-end}
 
 -- ---- where a walk goes
-module _ (j : List ℕ) where
+module _ (v : ℕ) (j : List ℕ) where
   -- onward
-  pub stops-ahead : (at : ℕ) → at ≤ walk j at .stop
+  pub stops-ahead : (at : ℕ) → at ≤ walk v j at .stop
   stops-ahead =
-      along j (λ at. at ≤ walk j at .stop)
-      (λ at r next e on. rw (walk-one j at r next e) (omega (arith, on, read-ahead j at r next e .0)))
-      (λ at n e. rw (walk-stop j at n e) (omega arith))
-      (λ at e. rw (walk-end j at e) (omega arith))
+      along v j (λ at. at ≤ walk v j at .stop)
+      (λ at r next e on. rw (walk-one v j at r next e) (omega (arith, on, read-ahead v j at r next e .0)))
+      (λ at n e. rw (walk-stop v j at n e) (omega arith))
+      (λ at e. rw (walk-end v j at e) (omega arith))
+
+  -- and from a position within the journal it stops within it
+  pub stops-within : (at : ℕ) → at ≤ length j → walk v j at .stop ≤ length j
+  stops-within =
+      along v j (λ at. at ≤ length j → walk v j at .stop ≤ length j)
+      (λ at r next e on h. rw (walk-one v j at r next e) (on (read-ahead v j at r next e .1)))
+      (λ at n e h. rw (walk-stop v j at n e) h)
+      (λ at e h. rw (walk-end v j at e) h)
 
   -- no entry ends at or before the position where it begins
-  pub none-before : (n at : ℕ) → n ≤ at → upTo n (walk j at .entries) ≡ []
+  pub none-before : (n at : ℕ) → n ≤ at → upTo n (walk v j at .entries) ≡ []
   unfolding upTo pick
   none-before n =
-      along j (λ at. n ≤ at → upTo n (walk j at .entries) ≡ [])
-      (λ at r next e on h. let a = read-ahead j at r next e .0 in rw (walk-one j at r next e, lt-leb next n (omega (arith, a, h))) (on (omega (arith, a, h))))
-      (λ at m e h. rw (walk-stop j at m e) refl)
-      (λ at e h. rw (walk-end j at e) refl)
+      along v j (λ at. n ≤ at → upTo n (walk v j at .entries) ≡ [])
+      (λ at r next e on h. let a = read-ahead v j at r next e .0 in rw (walk-one v j at r next e, lt-leb next n (omega (arith, a, h))) (on (omega (arith, a, h))))
+      (λ at m e h. rw (walk-stop v j at m e) refl)
+      (λ at e h. rw (walk-end v j at e) refl)
 
-  no-boundary-before : (n at : ℕ) → n < at → boundary n at (walk j at .entries) ≡ false
+  no-boundary-before : (n at : ℕ) → n < at → boundary n at (walk v j at .entries) ≡ false
   unfolding boundary pick
   no-boundary-before n =
-      along j (λ at. n < at → boundary n at (walk j at .entries) ≡ false)
-      (λ at r next e on h. let a = read-ahead j at r next e .0 in rw (walk-one j at r next e, ne-eqb n at (λ q. omega (arith, q, h))) (on (omega (arith, a, h))))
-      (λ at m e h. rw (walk-stop j at m e) (ne-eqb n at (λ q. omega (arith, q, h))))
-      (λ at e h. rw (walk-end j at e) (ne-eqb n at (λ q. omega (arith, q, h))))
+      along v j (λ at. n < at → boundary n at (walk v j at .entries) ≡ false)
+      (λ at r next e on h. let a = read-ahead v j at r next e .0 in rw (walk-one v j at r next e, ne-eqb n at (λ q. omega (arith, q, h))) (on (omega (arith, a, h))))
+      (λ at m e h. rw (walk-stop v j at m e) (ne-eqb n at (λ q. omega (arith, q, h))))
+      (λ at e h. rw (walk-end v j at e) (ne-eqb n at (λ q. omega (arith, q, h))))
 
-  cut-before : (n at : ℕ) → n < at → cutNumber n j at (walk j at) ≡ cutShort
+  cut-before : (n at : ℕ) → n < at → cutNumber n v j at (walk v j at) ≡ cutShort
   unfolding cutNumber pick
   cut-before n at h =
       let s = stops-ahead at in
-      rw (no-boundary-before n at h, lt-leb (walk j at .stop + enough j (walk j at .stop)) n (omega arith)) refl
+      rw (no-boundary-before n at h, lt-leb (walk v j at .stop + enough v (drop (walk v j at .stop) j)) n (omega arith)) refl
 
   -- up to where it stops it has all its entries; and there is a boundary, where the last of them ends
-  pub all-up-to : (n at : ℕ) → walk j at .stop ≤ n → upTo n (walk j at .entries) ≡ walk j at .entries
+  pub all-up-to : (n at : ℕ) → walk v j at .stop ≤ n → upTo n (walk v j at .entries) ≡ walk v j at .entries
   unfolding upTo pick
   all-up-to n =
-      along j (λ at. walk j at .stop ≤ n → upTo n (walk j at .entries) ≡ walk j at .entries)
+      along v j (λ at. walk v j at .stop ≤ n → upTo n (walk v j at .entries) ≡ walk v j at .entries)
       (λ at r next e on h.
-      let k : walk j next .stop ≤ n = rw (walk-one j at r next e) at h in
-      rw (walk-one j at r next e, le-leb next n (omega (arith, k, stops-ahead next))) (ap (λ (es : List Entry). entry at r next ∷ es) (on k)))
-      (λ at m e h. rw (walk-stop j at m e) refl)
-      (λ at e h. rw (walk-end j at e) refl)
+      let k : walk v j next .stop ≤ n = rw (walk-one v j at r next e) at h in
+      rw (walk-one v j at r next e, le-leb next n (omega (arith, k, stops-ahead next))) (ap (λ (es : List Entry). entry at r next ∷ es) (on k)))
+      (λ at m e h. rw (walk-stop v j at m e) refl)
+      (λ at e h. rw (walk-end v j at e) refl)
 
-  pub stop-boundary : (at : ℕ) → boundary (walk j at .stop) at (walk j at .entries) ≡ true
+  pub stop-boundary : (at : ℕ) → boundary (walk v j at .stop) at (walk v j at .entries) ≡ true
   unfolding boundary pick
   stop-boundary =
-      along j (λ at. boundary (walk j at .stop) at (walk j at .entries) ≡ true)
-      (λ at r next e on. rw (walk-one j at r next e, ne-eqb (walk j next .stop) at (λ q. omega (arith, q, stops-ahead next, read-ahead j at r next e .0))) on)
-      (λ at m e. rw (walk-stop j at m e) (eq-eqb at at refl))
-      (λ at e. rw (walk-end j at e) (eq-eqb at at refl))
+      along v j (λ at. boundary (walk v j at .stop) at (walk v j at .entries) ≡ true)
+      (λ at r next e on. rw (walk-one v j at r next e, ne-eqb (walk v j next .stop) at (λ q. omega (arith, q, stops-ahead next, read-ahead v j at r next e .0))) on)
+      (λ at m e. rw (walk-stop v j at m e) (eq-eqb at at refl))
+      (λ at e. rw (walk-end v j at e) (eq-eqb at at refl))
 
-  pub reaches : (at : ℕ) → reached at (walk j at .entries) ≡ walk j at .stop
+  pub reaches : (at : ℕ) → reached at (walk v j at .entries) ≡ walk v j at .stop
   unfolding reached
   reaches =
-      along j (λ at. reached at (walk j at .entries) ≡ walk j at .stop)
-      (λ at r next e on. rw (walk-one j at r next e) on)
-      (λ at m e. rw (walk-stop j at m e) refl)
-      (λ at e. rw (walk-end j at e) refl)
+      along v j (λ at. reached at (walk v j at .entries) ≡ walk v j at .stop)
+      (λ at r next e on. rw (walk-one v j at r next e) on)
+      (λ at m e. rw (walk-stop v j at m e) refl)
+      (λ at e. rw (walk-end v j at e) refl)
 
 -- ---- the entries up to a cut are the first of them
 first-then : (n : ℕ) (e : Entry) (es : List Entry) → upTo n es ≡ take (length (upTo n es)) es → (n < e .next → upTo n es ≡ [])
@@ -88,27 +96,27 @@ first-then n e es on none = side (leb (e .next) n) refl
     side true b = rw b (ap (λ (l : List Entry). e ∷ l) on)
     side false b = rw (b, none (leb-false (e .next) n b)) refl
 
-pub first-of-them : (n : ℕ) (j : List ℕ) (at : ℕ) → upTo n (walk j at .entries) ≡ take (length (upTo n (walk j at .entries))) (walk j at .entries)
+pub first-of-them : (v n : ℕ) (j : List ℕ) (at : ℕ) → upTo n (walk v j at .entries) ≡ take (length (upTo n (walk v j at .entries))) (walk v j at .entries)
 unfolding upTo
-first-of-them n j =
-    along j (λ at. upTo n (walk j at .entries) ≡ take (length (upTo n (walk j at .entries))) (walk j at .entries))
-    (λ at r next e on. rw (walk-one j at r next e) (first-then n (entry at r next) (walk j next .entries) on (λ l. none-before j n next (omega (arith, l)))))
-    (λ at m e. rw (walk-stop j at m e) refl)
-    (λ at e. rw (walk-end j at e) refl)
+first-of-them v n j =
+    along v j (λ at. upTo n (walk v j at .entries) ≡ take (length (upTo n (walk v j at .entries))) (walk v j at .entries))
+    (λ at r next e on. rw (walk-one v j at r next e) (first-then n (entry at r next) (walk v j next .entries) on (λ l. none-before v j n next (omega (arith, l)))))
+    (λ at m e. rw (walk-stop v j at m e) refl)
+    (λ at e. rw (walk-end v j at e) refl)
 
 -- ---- the cut
-module _ (n : ℕ) (j : List ℕ) where
+module _ (v n : ℕ) (j : List ℕ) where
   here : (es : List Entry) → boundary n n es ≡ true
   unfolding boundary pick
   here [] = eq-eqb n n refl
   here (e ∷ es) = rw (eq-eqb n n refl) refl
 
   abbrev Kept : ℕ → Type 0
-  Kept at = walk (take n j) at ≡ cutWalk n j at (walk j at)
+  Kept at = walk v (take n j) at ≡ cutWalk n v j at (walk v j at)
 
   at-the-cut : (at : ℕ) → at ≡ n → Kept at
   unfolding cutWalk cutNumber reached pick
-  at-the-cut at h = rw (walk-end (take n j) at (read-none n j at (omega (arith, h))), h, none-before j n n (omega arith), here (walk j n .entries)) refl
+  at-the-cut at h = rw (walk-end v (take n j) at (read-none v n j at (omega (arith, h))), h, none-before v j n n (omega arith), here (walk v j n .entries)) refl
 
   before-the-cut : (at : ℕ) → (at < n → Kept at) → at ≤ n → Kept at
   before-the-cut at f h = side (ltb at n) refl
@@ -117,42 +125,42 @@ module _ (n : ℕ) (j : List ℕ) where
       side true b = f (ltb-true at n b)
       side false b = let l = ltb-false at n b in at-the-cut at (omega (arith, h, l))
 
-  at-one : (at : ℕ) (r : Record) (next : ℕ) → readAt j at ≡ One r next → (next ≤ n → Kept next) → at < n → Kept at
+  at-one : (at : ℕ) (r : Record) (next : ℕ) → readAt v j at ≡ One r next → (next ≤ n → Kept next) → at < n → Kept at
   unfolding cutWalk cutNumber reached boundary upTo pick
   at-one at r next e on h = side (leb next n) refl
     where
       side : (b : Bool) → leb next n ≡ b → Kept at
       side true b =
           let l = leb-true next n b in
-          rw (walk-one (take n j) at r next (read-shorter n j at r next e l), walk-one j at r next e, b, ne-eqb n at (λ q. omega (arith, q, h)))
+          rw (walk-one v (take n j) at r next (read-shorter v n j at r next e l), walk-one v j at r next e, b, ne-eqb n at (λ q. omega (arith, q, h)))
           (ap (onto (entry at r next)) (on l))
       side false b =
           let l = leb-false next n b in
-          let t = told-by j at r next e in
-          let c = cut-before j n next l in
-          rw (walk-stop (take n j) at cutShort (read-off n j at h (omega (arith, t, l))), walk-one j at r next e, b, ne-eqb n at (λ q. omega (arith, q, h)), none-before j n next (omega (arith, l)))
+          let t = told-by v j at r next e in
+          let c = cut-before v j n next l in
+          rw (walk-stop v (take n j) at cutShort (read-off v n j at h (omega (arith, t, l))), walk-one v j at r next e, b, ne-eqb n at (λ q. omega (arith, q, h)), none-before v j n next (omega (arith, l)))
           (ap (halt at) (sym c))
 
-  at-stop : (at m : ℕ) → readAt j at ≡ Stop m → at < n → Kept at
+  at-stop : (at m : ℕ) → readAt v j at ≡ Stop m → at < n → Kept at
   unfolding cutWalk cutNumber reached boundary upTo pick
-  at-stop at m e h = side (leb (at + enough j at) n) refl
+  at-stop at m e h = side (leb (at + enough v (drop at j)) n) refl
     where
-      side : (b : Bool) → leb (at + enough j at) n ≡ b → Kept at
+      side : (b : Bool) → leb (at + enough v (drop at j)) n ≡ b → Kept at
       side true b =
-          rw (walk-stop (take n j) at m (read-kept n j at h (leb-true (at + enough j at) n b) ∙ e), walk-stop j at m e, ne-eqb n at (λ q. omega (arith, q, h)), b) refl
+          rw (walk-stop v (take n j) at m (read-kept v n j at h (leb-true (at + enough v (drop at j)) n b) ∙ e), walk-stop v j at m e, ne-eqb n at (λ q. omega (arith, q, h)), b) refl
       side false b =
-          rw (walk-stop (take n j) at cutShort (read-off n j at h (leb-false (at + enough j at) n b)), walk-stop j at m e, ne-eqb n at (λ q. omega (arith, q, h)), b) refl
+          rw (walk-stop v (take n j) at cutShort (read-off v n j at h (leb-false (at + enough v (drop at j)) n b)), walk-stop v j at m e, ne-eqb n at (λ q. omega (arith, q, h)), b) refl
 
-  at-end : (at : ℕ) → readAt j at ≡ End → at < n → Kept at
+  at-end : (at : ℕ) → readAt v j at ≡ End → at < n → Kept at
   unfolding cutWalk cutNumber reached boundary upTo pick
   at-end at e h =
-      let z = none-to-tell j at (end-past j at e) in
-      rw (walk-end (take n j) at (read-kept n j at h (omega (arith, z, h)) ∙ e), walk-end j at e, ne-eqb n at (λ q. omega (arith, q, h)), z, le-leb (at + 0) n (omega arith)) refl
+      let z = none-to-tell v j at (end-past v j at e) in
+      rw (walk-end v (take n j) at (read-kept v n j at h (omega (arith, z, h)) ∙ e), walk-end v j at e, ne-eqb n at (λ q. omega (arith, q, h)), z, le-leb (at + 0) n (omega arith)) refl
 
   -- THE CUT of a walk
-  pub walk-cut : (at : ℕ) → at ≤ n → walk (take n j) at ≡ cutWalk n j at (walk j at)
+  pub walk-cut : (at : ℕ) → at ≤ n → walk v (take n j) at ≡ cutWalk n v j at (walk v j at)
   walk-cut =
-      along j (λ at. at ≤ n → Kept at)
+      along v j (λ at. at ≤ n → Kept at)
       (λ at r next e on. before-the-cut at (at-one at r next e on))
       (λ at m e. before-the-cut at (at-stop at m e))
       (λ at e. before-the-cut at (at-end at e))

@@ -1,23 +1,26 @@
 -- The header test by test: which number it gives; that the number is 0 exactly if all that a good header has is there; and what a cut leaves
 -- of it.
-use mathlib.Core.Path.{_≡_, refl, _∙_}
+use mathlib.Core.Path.{_≡_, refl, sym, ap, _∙_}
 use mathlib.Core.Bool.{Bool, true, false}
-use mathlib.Core.List.{List}
-use Prim.Native.Nat.{ℕ, suc, _≤_, _<_, min}
+use mathlib.Core.List.{List, _++_}
+use Prim.Native.Nat.{ℕ, suc, _-_, _≤_, _<_, min}
 use native.Mathlib.Omega.{arith}
 use borrow.Author.Tests.{ltb-false, lt-ltb, le-ltb, eqb-true, eq-eqb, ne-eqb, not-false}
-use lib.Dec.{ltb}
-use lib.ListN.{length, getD, take, length-take}
-use lib.Seq.{getD-take}
+use lib.Dec.{ltb, eqb}
+use lib.ListN.{length, getD, take, drop, length-take, length-drop, length-append, List·getD-append}
+use lib.Seq.{getD-take, take-append-le, drop-append-le}
 use Rattle.ledger.specs.Choice.{pick}
 use Rattle.ledger.specs.Numbers.{markWrong, versionWrong, cutShort, journalTooLarge}
-use Rattle.journal.specs.Fields.{num}
-use Rattle.journal.specs.Header.{headerWithin, headerOf}
-use Rattle.journal.proofs.Cut.{num-cut}
+use Rattle.words.specs.Bytes.{leNumber}
+use Rattle.journal.specs.Reading.{num}
+use Rattle.journal.specs.Header.{largest, recordsBegin, heading, refusalWithin, headerWithin, headerOf}
+use Rattle.journal.specs.declared.heading.Heading.{Heading}
+use Rattle.journal.proofs.Runs.{payload-cut}
 
-pub record GoodHeader (j : List ℕ) : Type 0 where
-  pub fits : length j ≤ 61440
-  pub there : 53 ≤ length j
+-- n bytes of a good header's journal
+pub record GoodHeader (n : ℕ) (j : List ℕ) : Type 0 where
+  pub fits : n ≤ largest
+  pub there : recordsBegin ≤ n
   pub first : getD j 0 0 ≡ 78
   pub second : getD j 1 0 ≡ 75
   pub third : getD j 2 0 ≡ 74
@@ -29,104 +32,167 @@ unfolding pick
 not-this true n x e = let no : ⊥ = omega arith in elim no [ ]
 not-this false n x e = (refl, e)
 
-pub header-good : (j : List ℕ) → headerOf j ≡ 0 → GoodHeader j
-unfolding headerOf headerWithin
-header-good j e =
-    let a = not-this _ _ _ e in
-    let b = not-this _ _ _ (a .1) in
-    let c = not-this _ _ _ (b .1) in
-    let d = not-this _ _ _ (c .1) in
-    let f = not-this _ _ _ (d .1) in
-    let g = not-this _ _ _ (f .1) in
-    let h = not-this _ _ _ (g .1) in
-    let i = not-this _ _ _ (h .1) in
-    record {
-      fits = ltb-false _ _ (a .0);
-      there = ltb-false _ _ (i .0);
-      first = eqb-true _ _ (not-false _ (c .0));
-      second = eqb-true _ _ (not-false _ (d .0));
-      third = eqb-true _ _ (not-false _ (f .0));
-      version = eqb-true _ _ (not-false _ (h .0));
-    }
+module _ (n : ℕ) (j : List ℕ) where
+  refusal-good : refusalWithin n j ≡ 0 → GoodHeader n j
+  unfolding refusalWithin
+  refusal-good e =
+      let a = not-this _ _ _ e in
+      let b = not-this _ _ _ (a .1) in
+      let c = not-this _ _ _ (b .1) in
+      let d = not-this _ _ _ (c .1) in
+      let f = not-this _ _ _ (d .1) in
+      let g = not-this _ _ _ (f .1) in
+      let h = not-this _ _ _ (g .1) in
+      let i = not-this _ _ _ (h .1) in
+      record {
+        fits = ltb-false _ _ (a .0);
+        there = ltb-false _ _ (i .0);
+        first = eqb-true _ _ (not-false _ (c .0));
+        second = eqb-true _ _ (not-false _ (d .0));
+        third = eqb-true _ _ (not-false _ (f .0));
+        version = eqb-true _ _ (not-false _ (h .0));
+      }
 
-pub good-header : (j : List ℕ) → GoodHeader j → headerOf j ≡ 0
-unfolding headerOf headerWithin pick
-good-header j g =
-    let w : 53 ≤ length j = g .there in
-    rw (le-ltb 61440 (length j) (g .fits), le-ltb (length j) 3 (omega arith), eq-eqb _ _ (g .first), eq-eqb _ _ (g .second), eq-eqb _ _ (g .third), le-ltb (length j) 5 (omega arith), eq-eqb _ _ (g .version), le-ltb (length j) 53 w)
+  pub good-refusal : GoodHeader n j → refusalWithin n j ≡ 0
+  unfolding refusalWithin pick
+  good-refusal g =
+      let w = g .there in
+      rw (le-ltb largest n (g .fits), le-ltb n 3 (omega arith), eq-eqb _ _ (g .first), eq-eqb _ _ (g .second), eq-eqb _ _ (g .third), le-ltb n 5 (omega arith), eq-eqb _ _ (g .version), le-ltb n recordsBegin w)
 
--- the number of each test, where those before it pass
-module _ (j : List ℕ) where
-  pub too-large : 61440 < length j → journalTooLarge ≡ headerOf j
-  unfolding headerOf headerWithin pick
-  too-large a = rw (lt-ltb 61440 (length j) a)
+  -- the number of each test, where those before it pass
+  pub too-large : largest < n → journalTooLarge ≡ refusalWithin n j
+  unfolding refusalWithin pick
+  too-large a = rw (lt-ltb largest n a)
 
-  pub no-mark : length j ≤ 61440 → length j < 3 → markWrong ≡ headerOf j
-  unfolding headerOf headerWithin pick
-  no-mark a b = rw (le-ltb 61440 (length j) a, lt-ltb (length j) 3 b)
+  pub no-mark : n ≤ largest → n < 3 → markWrong ≡ refusalWithin n j
+  unfolding refusalWithin pick
+  no-mark a b = rw (le-ltb largest n a, lt-ltb n 3 b)
 
-  pub first-wrong : length j ≤ 61440 → 3 ≤ length j → (getD j 0 0 ≡ 78 → ⊥) → markWrong ≡ headerOf j
-  unfolding headerOf headerWithin pick
-  first-wrong a b c = rw (le-ltb 61440 (length j) a, le-ltb (length j) 3 b, ne-eqb (getD j 0 0) 78 c)
+  pub first-wrong : n ≤ largest → 3 ≤ n → (getD j 0 0 ≡ 78 → ⊥) → markWrong ≡ refusalWithin n j
+  unfolding refusalWithin pick
+  first-wrong a b c = rw (le-ltb largest n a, le-ltb n 3 b, ne-eqb (getD j 0 0) 78 c)
 
-  pub second-wrong : length j ≤ 61440 → 3 ≤ length j → getD j 0 0 ≡ 78 → (getD j 1 0 ≡ 75 → ⊥) → markWrong ≡ headerOf j
-  unfolding headerOf headerWithin pick
-  second-wrong a b c d = rw (le-ltb 61440 (length j) a, le-ltb (length j) 3 b, eq-eqb (getD j 0 0) 78 c, ne-eqb (getD j 1 0) 75 d)
+  pub second-wrong : n ≤ largest → 3 ≤ n → getD j 0 0 ≡ 78 → (getD j 1 0 ≡ 75 → ⊥) → markWrong ≡ refusalWithin n j
+  unfolding refusalWithin pick
+  second-wrong a b c d = rw (le-ltb largest n a, le-ltb n 3 b, eq-eqb (getD j 0 0) 78 c, ne-eqb (getD j 1 0) 75 d)
 
-  pub third-wrong : length j ≤ 61440 → 3 ≤ length j → getD j 0 0 ≡ 78 → getD j 1 0 ≡ 75 → (getD j 2 0 ≡ 74 → ⊥) → markWrong ≡ headerOf j
-  unfolding headerOf headerWithin pick
+  pub third-wrong : n ≤ largest → 3 ≤ n → getD j 0 0 ≡ 78 → getD j 1 0 ≡ 75 → (getD j 2 0 ≡ 74 → ⊥) → markWrong ≡ refusalWithin n j
+  unfolding refusalWithin pick
   third-wrong a b c d e =
-      rw (le-ltb 61440 (length j) a, le-ltb (length j) 3 b, eq-eqb (getD j 0 0) 78 c, eq-eqb (getD j 1 0) 75 d, ne-eqb (getD j 2 0) 74 e)
+      rw (le-ltb largest n a, le-ltb n 3 b, eq-eqb (getD j 0 0) 78 c, eq-eqb (getD j 1 0) 75 d, ne-eqb (getD j 2 0) 74 e)
 
-  pub no-version : 3 ≤ length j → getD j 0 0 ≡ 78 → getD j 1 0 ≡ 75 → getD j 2 0 ≡ 74 → length j < 5 → cutShort ≡ headerOf j
-  unfolding headerOf headerWithin pick
+  pub no-version : 3 ≤ n → getD j 0 0 ≡ 78 → getD j 1 0 ≡ 75 → getD j 2 0 ≡ 74 → n < 5 → cutShort ≡ refusalWithin n j
+  unfolding refusalWithin pick
   no-version b c d e f =
-      rw (le-ltb 61440 (length j) (omega arith), le-ltb (length j) 3 b, eq-eqb (getD j 0 0) 78 c, eq-eqb (getD j 1 0) 75 d, eq-eqb (getD j 2 0) 74 e, lt-ltb (length j) 5 f)
+      rw (le-ltb largest n (omega arith), le-ltb n 3 b, eq-eqb (getD j 0 0) 78 c, eq-eqb (getD j 1 0) 75 d, eq-eqb (getD j 2 0) 74 e, lt-ltb n 5 f)
 
-  pub version-wrong : length j ≤ 61440 → 5 ≤ length j → getD j 0 0 ≡ 78 → getD j 1 0 ≡ 75 → getD j 2 0 ≡ 74 → (num 2 j 3 ≡ 1 → ⊥) → versionWrong ≡ headerOf j
-  unfolding headerOf headerWithin pick
+  pub version-wrong : n ≤ largest → 5 ≤ n → getD j 0 0 ≡ 78 → getD j 1 0 ≡ 75 → getD j 2 0 ≡ 74 → (num 2 j 3 ≡ 1 → ⊥) → versionWrong ≡ refusalWithin n j
+  unfolding refusalWithin pick
   version-wrong a b c d e g =
-      rw (le-ltb 61440 (length j) a, le-ltb (length j) 3 (omega arith), eq-eqb (getD j 0 0) 78 c, eq-eqb (getD j 1 0) 75 d, eq-eqb (getD j 2 0) 74 e, le-ltb (length j) 5 b, ne-eqb (num 2 j 3) 1 g)
+      rw (le-ltb largest n a, le-ltb n 3 (omega arith), eq-eqb (getD j 0 0) 78 c, eq-eqb (getD j 1 0) 75 d, eq-eqb (getD j 2 0) 74 e, le-ltb n 5 b, ne-eqb (num 2 j 3) 1 g)
 
-  pub no-start : 5 ≤ length j → getD j 0 0 ≡ 78 → getD j 1 0 ≡ 75 → getD j 2 0 ≡ 74 → num 2 j 3 ≡ 1 → length j < 53 → cutShort ≡ headerOf j
-  unfolding headerOf headerWithin pick
+  pub no-start : 5 ≤ n → getD j 0 0 ≡ 78 → getD j 1 0 ≡ 75 → getD j 2 0 ≡ 74 → num 2 j 3 ≡ 1 → n < recordsBegin → cutShort ≡ refusalWithin n j
+  unfolding refusalWithin pick
   no-start b c d e g h =
-      rw (le-ltb 61440 (length j) (omega arith), le-ltb (length j) 3 (omega arith), eq-eqb (getD j 0 0) 78 c, eq-eqb (getD j 1 0) 75 d, eq-eqb (getD j 2 0) 74 e, le-ltb (length j) 5 b, eq-eqb (num 2 j 3) 1 g, lt-ltb (length j) 53 h)
+      rw (le-ltb largest n (omega arith), le-ltb n 3 (omega arith), eq-eqb (getD j 0 0) 78 c, eq-eqb (getD j 1 0) 75 d, eq-eqb (getD j 2 0) 74 e, le-ltb n 5 b, eq-eqb (num 2 j 3) 1 g, lt-ltb n recordsBegin h)
+
+-- the number of a whole journal's header
+abbrev pub refusalOf : List ℕ → ℕ
+refusalOf j = refusalWithin (length j) j
+
+-- ---- the header, by that number
+pub header-number : (j : List ℕ) → headerOf j .number ≡ refusalOf j
+unfolding headerOf headerWithin pick
+header-number j = by (eqb (refusalOf j) 0) refl
+  where
+    by : (b : Bool) → eqb (refusalOf j) 0 ≡ b → headerOf j .number ≡ refusalOf j
+    by true e = rw e (sym (eqb-true (refusalOf j) 0 e))
+    by false e = rw e refl
+
+module _ (j : List ℕ) where
+  pub header-good : headerOf j .number ≡ 0 → GoodHeader (length j) j
+  header-good e = refusal-good (length j) j (sym (header-number j) ∙ e)
+
+  -- a good one is of version 1
+  pub good-header : GoodHeader (length j) j → headerOf j ≡ heading 0 1 recordsBegin
+  unfolding headerOf headerWithin pick
+  good-header g = rw (good-refusal (length j) j g, g .version) refl
+
+  pub heading-good : headerOf j .number ≡ 0 → headerOf j ≡ heading 0 1 recordsBegin
+  heading-good e = good-header (header-good e)
+
+  -- any other says nothing but its number
+  pub heading-bad : (headerOf j .number ≡ 0 → ⊥) → headerOf j ≡ heading (refusalOf j) 0 0
+  unfolding headerOf headerWithin pick
+  heading-bad h = rw (ne-eqb (refusalOf j) 0 (λ e. h (header-number j ∙ e))) refl
+
+  -- what is said by the number that was found
+  pub said-good : (n : ℕ) → n ≡ refusalOf j → n ≡ 0 → heading n 1 recordsBegin ≡ headerOf j
+  said-good n e z = ap (λ (m : ℕ). heading m 1 recordsBegin) z ∙ sym (heading-good (header-number j ∙ sym e ∙ z))
+
+  pub said-bad : (n : ℕ) → n ≡ refusalOf j → (n ≡ 0 → ⊥) → heading n 0 0 ≡ headerOf j
+  said-bad n e h = ap (λ (m : ℕ). heading m 0 0) e ∙ sym (heading-bad (λ z. h (e ∙ sym (header-number j) ∙ z)))
 
 -- ---- a journal that is cut
-module _ (n : ℕ) (i k : List ℕ) where
+module _ (n : ℕ) (i k : List ℕ) (same : (at : ℕ) → at < n → getD i at 0 ≡ getD k at 0) (version : 5 ≤ n → num 2 i 3 ≡ num 2 k 3) where
   -- five bytes have a say, and each only where it is there
-  by-five : ((at : ℕ) → at < n → getD i at 0 ≡ getD k at 0) → (5 ≤ n → num 2 i 3 ≡ num 2 k 3) → headerWithin n i ≡ headerWithin n k
-  unfolding headerWithin pick
-  by-five same version = mark (ltb n 3) refl
+  by-five : refusalWithin n i ≡ refusalWithin n k
+  unfolding refusalWithin pick
+  by-five = mark (ltb n 3) refl
     where
-      start : (b : Bool) → ltb n 5 ≡ b → 3 ≤ n → headerWithin n i ≡ headerWithin n k
+      start : (b : Bool) → ltb n 5 ≡ b → 3 ≤ n → refusalWithin n i ≡ refusalWithin n k
       start true b h = rw (b, same 0 (omega arith), same 1 (omega arith), same 2 (omega arith)) refl
       start false b h = rw (version (ltb-false n 5 b), same 0 (omega arith), same 1 (omega arith), same 2 (omega arith)) refl
 
-      mark : (b : Bool) → ltb n 3 ≡ b → headerWithin n i ≡ headerWithin n k
+      mark : (b : Bool) → ltb n 3 ≡ b → refusalWithin n i ≡ refusalWithin n k
       mark true b = rw b refl
       mark false b = start (ltb n 5) refl (ltb-false n 3 b)
+
+  same-header : headerWithin n i ≡ headerWithin n k
+  unfolding headerWithin pick
+  same-header = by (eqb (refusalWithin n k) 0) refl
+    where
+      by : (b : Bool) → eqb (refusalWithin n k) 0 ≡ b → headerWithin n i ≡ headerWithin n k
+      by true e = let w = refusal-good n k (eqb-true (refusalWithin n k) 0 e) .there in rw (by-five, e, version (omega arith)) refl
+      by false e = rw (by-five, e) refl
+
+version-cut : (n : ℕ) (j : List ℕ) → 5 ≤ n → num 2 (take n j) 3 ≡ num 2 j 3
+version-cut n j h = ap leNumber (payload-cut n j 3 2 h)
 
 -- THE HEADER of a journal that is cut is that of the whole, with so many bytes there
 pub header-cut : (n : ℕ) (j : List ℕ) → headerOf (take n j) ≡ headerWithin (min n (length j)) j
 unfolding headerOf
 header-cut n j =
     rw (length-take n j)
-    (by-five (min n (length j)) (take n j) j (λ at h. getD-take n j at 0 (omega (arith, h))) (λ h. num-cut 2 n j 3 (omega (arith, h))))
+    (same-header (min n (length j)) (take n j) j (λ at h. getD-take n j at 0 (omega (arith, h))) (λ h. version-cut n j (omega (arith, h))))
 
--- one that is good stays so as far as its 53 bytes go
-pub header-kept : (n : ℕ) (j : List ℕ) → 53 ≤ n → headerOf j ≡ 0 → headerOf (take n j) ≡ 0
-header-kept n j h e =
-    let g : GoodHeader j = header-good j e in
-    let w : 53 ≤ length j = g .there in
-    let f : length j ≤ 61440 = g .fits in
-    good-header (take n j)
-    (record {
+-- one that is good stays so as far as its bytes go
+pub good-kept : (n : ℕ) (j : List ℕ) → recordsBegin ≤ n → GoodHeader (length j) j → GoodHeader (length (take n j)) (take n j)
+good-kept n j h g =
+    let w = g .there in
+    let f = g .fits in
+    record {
       fits = rw length-take (omega arith);
       there = rw length-take (omega arith);
       first = getD-take n j 0 0 (omega arith) ∙ g .first;
       second = getD-take n j 1 0 (omega arith) ∙ g .second;
       third = getD-take n j 2 0 (omega arith) ∙ g .third;
-      version = num-cut 2 n j 3 (omega arith) ∙ g .version;
-    })
+      version = version-cut n j (omega arith) ∙ g .version;
+    }
+
+pub header-kept : (n : ℕ) (j : List ℕ) → recordsBegin ≤ n → headerOf j .number ≡ 0 → headerOf (take n j) .number ≡ 0
+header-kept n j h e = ap (λ (x : Heading). x .number) (good-header (take n j) (good-kept n j h (header-good j e)))
+
+-- and so does one behind which more bytes stand
+pub good-longer : (j more : List ℕ) → length (j ++ more) ≤ largest → GoodHeader (length j) j → GoodHeader (length (j ++ more)) (j ++ more)
+good-longer j more l g =
+    let w = g .there in
+    let d : length (drop 3 j) ≡ length j - 3 = length-drop 3 j in
+    record {
+      fits = l;
+      there = rw (length-append j more) (omega arith);
+      first = List·getD-append j more 0 0 (omega arith) ∙ g .first;
+      second = List·getD-append j more 0 1 (omega arith) ∙ g .second;
+      third = List·getD-append j more 0 2 (omega arith) ∙ g .third;
+      version = rw (drop-append-le 3 j more (omega arith), take-append-le 2 (drop 3 j) more (omega arith)) (g .version);
+    }

@@ -1,93 +1,110 @@
--- A record that is read moves the position on, within the journal, and what it carries is all there. So going record by record ends.
-use mathlib.Core.Path.{_≡_, refl}
+-- A record that is read is whole and lies ahead; a number that is found is not 0.
+use mathlib.Core.Path.{_≡_, refl, sym, _∙_}
+use mathlib.Core.Bool.{Bool, true, false}
 use mathlib.Core.List.{List}
-use Prim.Native.Nat.{ℕ, zero, suc, _+_, _≤_, _<_}
+use Prim.Native.Nat.{ℕ, suc, _+_, _-_, _≤_, _<_}
 use native.Mathlib.Omega.{arith}
-use borrow.Author.Tests.{leb-true, ltb-false, le-ltb}
-use lib.Dec.{leb, ltb}
-use lib.ListN.{length, getD}
+use borrow.Author.Tests.{ltb-true, ltb-false, le-ltb}
+use lib.Dec.{ltb, eqb}
+use lib.ListN.{length, getD, drop, length-drop}
+use lib.Seq.{drop-cons}
 use Rattle.ledger.specs.Choice.{pick}
+use Rattle.ledger.specs.Sizes.{longest}
 use Rattle.ledger.proofs.Picks.{pick-by}
-use Rattle.journal.specs.Records.{whole, carried, eventAt, interruptAt, writeAt, seedAt, generatorReadAt, blockingReadAt, recordAt, readAt}
-use Rattle.journal.specs.Header.{headerOf}
-use Rattle.journal.specs.Ending.{endingFrom, endingOf}
+use Rattle.journal.specs.Layout.{widths, sum, recordOf, carries}
+use Rattle.journal.specs.Reading.{fieldsIn, carrying, opened, front, readAt}
+use Rattle.journal.specs.Cutting.{telling, enough}
 use Rattle.journal.specs.declared.records.Record.{Record}
-use Rattle.journal.specs.declared.records.Record.the-variants.{Event, Interrupt, Write, Seed, Read, BlockingRead}
 use Rattle.journal.specs.declared.records.Found.{Found}
 use Rattle.journal.specs.declared.records.Found.the-variants.{One, Stop, End}
+use Rattle.journal.proofs.Cut.{past}
 
--- the bytes that a record carries are the last before the next position, and no more than a call takes
-abbrev pub Carries : Record → ℕ → Type 0
-Carries (Event now device stamp value) next = Unit
-Carries (Interrupt now number stamp address) next = Unit
-Carries (Write now start len) next = (len ≤ 4096) × (start + len ≡ next)
-Carries (Seed now credit start len) next = (len ≤ 4096) × (start + len ≡ next)
-Carries (Read now len) next = Unit
-Carries (BlockingRead now len) next = Unit
+-- all that is known of a record that was read: its bytes are these, and they begin behind its kind
+pub record Whole (v kind start : ℕ) (bs : List ℕ) (r : Record) (next : ℕ) : Type 0 where
+  pub same : r ≡ recordOf kind (fieldsIn (widths v kind) bs)
+  pub known : eqb (length (widths v kind)) 0 ≡ false
+  pub few : carries r ≤ longest
+  pub there : sum (widths v kind) + carries r ≤ length bs
+  pub after : next ≡ start + sum (widths v kind) + carries r
 
--- what is found at a position, if it is a record, ends further on and within the journal
-abbrev pub Ahead : List ℕ → ℕ → Found → Type 0
-Ahead j at (One r next) = (at < next) × (next ≤ length j) × Carries r next
-Ahead j at (Stop n) = Unit
-Ahead j at End = Unit
+abbrev Tells : ℕ → ℕ → ℕ → List ℕ → Found → Type 0
+Tells v kind start bs (One r next) = Whole v kind start bs r next
+Tells v kind start bs (Stop n) = n ≡ 0 → ⊥
+Tells v kind start bs End = ⊥
 
-module _ (j : List ℕ) (at : ℕ) where
-  ahead-whole : (n : ℕ) (f : Found) → (at + n ≤ length j → Ahead j at f) → Ahead j at (whole j at n f)
-  unfolding whole
-  ahead-whole n f h = pick-by (Ahead j at) (leb (at + n) (length j)) (λ e. h (leb-true _ _ e)) (λ e. tt)
+opened-tells : (v kind start : ℕ) (bs : List ℕ) → Tells v kind start bs (opened v kind start bs)
+unfolding opened carrying
+opened-tells v kind start bs =
+    let ws = widths v kind in
+    let r = recordOf kind (fieldsIn ws bs) in
+    pick-by (Tells v kind start bs) (eqb (length ws) 0) (λ e z. omega (arith, z))
+    (λ a. pick-by (Tells v kind start bs) (ltb (length bs) (sum ws)) (λ e z. omega (arith, z))
+    (λ b. pick-by (Tells v kind start bs) (ltb longest (carries r)) (λ e z. omega (arith, z))
+    (λ c. pick-by (Tells v kind start bs) (ltb (length bs - sum ws) (carries r)) (λ e z. omega (arith, z))
+    (λ d. let m = ltb-false (length bs) (sum ws) b in
+    let n = ltb-false (length bs - sum ws) (carries r) d in
+    record { same = refl; known = a; few = ltb-false longest (carries r) c; there = omega (arith, m, n); after = refl }))))
 
-  ahead-carried : (r : Record) (start len : ℕ) → at < start → (len ≤ 4096 → Carries r (start + len)) → Ahead j at (carried j r start len)
-  unfolding carried
-  ahead-carried r start len h k =
-      pick-by (Ahead j at) (ltb 4096 len) (λ e. tt)
-      (λ e. pick-by (Ahead j at) (leb (start + len) (length j)) (λ q. let l = leb-true _ _ q in (omega arith, l, k (ltb-false _ _ e))) (λ q. tt))
+-- the same at a position of a journal
+pub record Stands (v : ℕ) (j : List ℕ) (at : ℕ) (r : Record) (next : ℕ) : Type 0 where
+  pub within : at < length j
+  pub whole : Whole v (getD j at 0) (at + 1) (drop (suc at) j) r next
 
-  ahead-kind : (k : ℕ) → Ahead j at (recordAt j at k)
-  unfolding recordAt eventAt interruptAt writeAt seedAt generatorReadAt blockingReadAt
-  ahead-kind zero = tt
-  ahead-kind (suc zero) = ahead-whole _ _ (λ h. (omega arith, h, tt))
-  ahead-kind (suc (suc zero)) = ahead-whole _ _ (λ h. (omega arith, h, tt))
-  ahead-kind (suc (suc (suc zero))) = ahead-whole _ _ (λ h. ahead-carried _ _ _ (omega arith) (λ l. (l, refl)))
-  ahead-kind (suc (suc (suc (suc zero)))) = ahead-whole _ _ (λ h. ahead-carried _ _ _ (omega arith) (λ l. (l, refl)))
-  ahead-kind (suc (suc (suc (suc (suc zero))))) = ahead-whole _ _ (λ h. (omega arith, h, tt))
-  ahead-kind (suc (suc (suc (suc (suc (suc zero)))))) = ahead-whole _ _ (λ h. (omega arith, h, tt))
-  ahead-kind (suc (suc (suc (suc (suc (suc (suc k))))))) = tt
+-- behind the first byte
+pub opens : (v : ℕ) (j : List ℕ) (at : ℕ) → at < length j → readAt v j at ≡ opened v (getD j at 0) (at + 1) (drop (suc at) j)
+unfolding readAt front
+opens v j at h = rw (drop-cons j at 0 h) refl
 
-  pub ahead : Ahead j at (readAt j at)
-  unfolding readAt
-  ahead = pick-by (Ahead j at) (ltb at (length j)) (λ e. ahead-kind (getD j at 0)) (λ e. tt)
+pub inside : (v : ℕ) (j : List ℕ) (at : ℕ) (x : Found) → (x ≡ End → ⊥) → readAt v j at ≡ x → at < length j
+inside v j at x n e = by (ltb at (length j)) refl
+  where
+    by : (b : Bool) → ltb at (length j) ≡ b → at < length j
+    by true q = ltb-true at (length j) q
+    by false q = absurd (n (sym e ∙ past v j at (ltb-false at (length j) q)))
 
--- the records from a position on, of which there are at most f, end the journal with e
-abbrev pub Left : List ℕ → ℕ → ℕ → Type 0
-Left j at e = (f : ℕ) × (length j < at + f) × (endingFrom f j at ≡ e)
+pub one-is-not-end : (r : Record) (next : ℕ) → One r next ≡ End → ⊥
+one-is-not-end r next e = let z : _≡_ {A = ℕ} 0 1 = cc in omega arith
 
--- behind the last byte nothing stands
-pub past : (j : List ℕ) (at : ℕ) → length j ≤ at → readAt j at ≡ End
-unfolding readAt pick
-past j at h = rw le-ltb
+pub stop-is-not-end : (n : ℕ) → Stop n ≡ End → ⊥
+stop-is-not-end n e = let z : _≡_ {A = ℕ} 0 1 = cc in omega arith
 
-module _ (j : List ℕ) (at e : ℕ) where
-  -- a record: what is left after it ends the journal alike
-  pub more : (r : Record) (next : ℕ) → Left j at e → readAt j at ≡ One r next → Left j next e
-  unfolding endingFrom
-  more r next (zero, b, q) h =
-      let p : readAt j at ≡ End = past j at (omega arith) in let z : _≡_ {A = ℕ} 0 1 = cc in let no : ⊥ = omega arith in elim no as (λ _. Left j next e) [ ]
-  more r next (suc f, b, q) h =
-      let m : Ahead j at (One r next) = rw h at (ahead j at) in (f, omega arith, rw h at q)
+pub stop-is-not-one : (n : ℕ) (r : Record) (next : ℕ) → Stop n ≡ One r next → ⊥
+stop-is-not-one n r next e = let z : _≡_ {A = ℕ} 0 1 = cc in omega arith
 
-  -- a number: it is the one
-  pub stops : (n : ℕ) → Left j at e → readAt j at ≡ Stop n → n ≡ e
-  unfolding endingFrom
-  stops n (zero, b, q) h = let p : readAt j at ≡ End = past j at (omega arith) in cc
-  stops n (suc f, b, q) h = rw h at q
+pub stands : (v : ℕ) (j : List ℕ) (at : ℕ) (r : Record) (next : ℕ) → readAt v j at ≡ One r next → Stands v j at r next
+stands v j at r next e =
+    let h = inside v j at (One r next) (one-is-not-end r next) e in
+    let t : Tells v (getD j at 0) (at + 1) (drop (suc at) j) (One r next) = rw (sym (opens v j at h) ∙ e) at (opened-tells v (getD j at 0) (at + 1) (drop (suc at) j)) in
+    record { within = h; whole = t }
 
-  -- no more bytes: 0
-  pub ends : Left j at e → readAt j at ≡ End → 0 ≡ e
-  unfolding endingFrom
-  ends (zero, b, q) h = q
-  ends (suc f, b, q) h = rw h at q
+pub stop-not-0 : (v : ℕ) (j : List ℕ) (at n : ℕ) → readAt v j at ≡ Stop n → n ≡ 0 → ⊥
+stop-not-0 v j at n e =
+    let h = inside v j at (Stop n) (stop-is-not-end n) e in
+    let t : Tells v (getD j at 0) (at + 1) (drop (suc at) j) (Stop n) = rw (sym (opens v j at h) ∙ e) at (opened-tells v (getD j at 0) (at + 1) (drop (suc at) j)) in
+    t
 
--- past a good header the records decide
-pub good : (j : List ℕ) → headerOf j ≡ 0 → endingOf j ≡ endingFrom (length j) j 53
-unfolding endingOf pick
-good j h = rw h
+-- at the end there are no more bytes
+pub end-past : (v : ℕ) (j : List ℕ) (at : ℕ) → readAt v j at ≡ End → length j ≤ at
+end-past v j at e = by (ltb at (length j)) refl
+  where
+    by : (b : Bool) → ltb at (length j) ≡ b → length j ≤ at
+    by true q =
+        let h = ltb-true at (length j) q in
+        let t : Tells v (getD j at 0) (at + 1) (drop (suc at) j) End = rw (sym (opens v j at h) ∙ e) at (opened-tells v (getD j at 0) (at + 1) (drop (suc at) j)) in
+        absurd t
+    by false q = ltb-false at (length j) q
+
+pub read-ahead : (v : ℕ) (j : List ℕ) (at : ℕ) (r : Record) (next : ℕ) → readAt v j at ≡ One r next → (at < next) × (next ≤ length j)
+read-ahead v j at r next e =
+    let s = stands v j at r next e in
+    let d : length (drop (suc at) j) ≡ length j - suc at = length-drop (suc at) j in
+    (omega (arith, s .whole .after), omega (arith, s .within, s .whole .after, s .whole .there, d))
+
+-- a record is as long as what tells it
+pub told-by : (v : ℕ) (j : List ℕ) (at : ℕ) (r : Record) (next : ℕ) → readAt v j at ≡ One r next → at + enough v (drop at j) ≡ next
+unfolding enough telling pick
+told-by v j at r next e =
+    let s = stands v j at r next e in
+    let w = s .whole in
+    let c : ltb longest (carries (recordOf (getD j at 0) (fieldsIn (widths v (getD j at 0)) (drop (suc at) j)))) ≡ false = rw (w .same) at (le-ltb longest (carries r) (w .few)) in
+    rw (drop-cons j at 0 (s .within), w .known, c, ← w .same) (omega (arith, w .after))

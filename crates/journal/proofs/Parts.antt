@@ -1,43 +1,121 @@
--- What the proofs of the code share: numbers put together from their halves, a record that is whole or cut, the kinds, and the part of
--- a journal that is handed on. Each law has the direction of the goal that it closes.
-use mathlib.Core.Path.{_≡_, refl, sym, _∙_}
-use mathlib.Core.List.{List, []}
+-- What the proofs of the code share: numbers put together from their halves, the fields of each kind, what stands at a position, and the part
+-- of a journal that is handed on. Each law has the direction of the goal that it closes.
+use mathlib.Core.Path.{_≡_, refl, sym, ap, ap₂, _∙_}
+use mathlib.Core.Bool.{false}
+use mathlib.Core.List.{List, [], _++_}
 use Prim.Native.Nat.{ℕ, zero, suc, _+_, _-_, _*_, _≤_, _<_}
 use native.Mathlib.Omega.{arith}
-use borrow.Author.Tests.{le-leb, lt-leb, lt-ltb}
+use borrow.Author.Tests.{lt-ltb, le-ltb}
+use lib.Dec.{eqb}
 use lib.ListN.{length, getD, take, drop, length-drop, drop-of-length-le}
-use lib.Seq.{take-nil, take-all}
+use lib.Seq.{drop-cons, drop-drop, take-add, take-nil, take-all, length-take-le}
 use Rattle.ledger.specs.Choice.{pick}
 use Rattle.ledger.specs.Numbers.{cutShort, unknownKind}
-use Rattle.journal.specs.Fields.{num}
-use Rattle.journal.specs.Records.{whole, recordAt, readAt}
+use Rattle.words.specs.Bytes.{leNumber}
+use Rattle.words.proofs.Numbers.{leNumber-append}
+use Rattle.journal.specs.Layout.{widths, sum, recordOf, carries}
+use Rattle.journal.specs.Reading.{num, fieldsIn, carrying, opened, readAt}
+use Rattle.journal.specs.declared.records.Record.{Record}
+use Rattle.journal.specs.declared.records.Record.the-variants.{Event, Interrupt, Write, Seed, Read, BlockingRead}
 use Rattle.journal.specs.declared.records.Found.{Found}
-use Rattle.journal.specs.declared.records.Found.the-variants.{Stop}
+use Rattle.journal.specs.declared.records.Found.the-variants.{One, Stop}
+use Rattle.journal.proofs.Onward.{opens}
 
--- four bytes are two and two
-pub num-4 : (j : List ℕ) (a : ℕ) → num 4 j a ≡ num 2 j a + 65536 * num 2 j (a + 2)
-unfolding num
-num-4 j a = let e : a + 2 ≡ a + 1 + 1 = omega arith in rw e (omega arith)
+-- ---- numbers
+module _ (j : List ℕ) (at : ℕ) where
+  pub num-1 : at + 1 ≤ length j → num 1 j at ≡ getD j at 0
+  unfolding leNumber
+  num-1 h = rw (drop-cons j at 0 (omega arith)) (omega arith)
 
--- eight are four and four
-pub num-8 : (j : List ℕ) (a : ℕ) → num 8 j a ≡ num 4 j a + 4294967296 * num 4 j (a + 4)
-unfolding num
-num-8 j a = let e : a + 4 ≡ a + 1 + 1 + 1 + 1 = omega arith in rw e (omega arith)
+  pub num-2 : at + 2 ≤ length j → num 2 j at ≡ getD j at 0 + 256 * getD j (at + 1) 0
+  unfolding leNumber
+  num-2 h =
+      let e : at + 1 ≡ suc at = omega arith in
+      rw (e, drop-cons j at 0 (omega arith), drop-cons j (suc at) 0 (omega arith)) (omega arith)
 
-module _ (j : List ℕ) (at n : ℕ) (f : Found) where
-  -- the fields are there
-  pub full : (r : Found) → at + n ≤ length j → r ≡ f → r ≡ whole j at n f
-  unfolding whole pick
-  full r h e = rw le-leb e
+  -- two runs of bytes
+  halves : (m n : ℕ) → at + m ≤ length j → num (m + n) j at ≡ leNumber (take m (drop at j) ++ take n (drop (at + m) j))
+  halves m n h = ap leNumber (take-add m n (drop at j) ∙ ap (λ (l : List ℕ). take m (drop at j) ++ take n l) (drop-drop m at j))
 
-  -- a field is missing
-  pub cut-off : length j < at + n → Stop cutShort ≡ whole j at n f
-  unfolding whole pick
-  cut-off h = rw lt-leb
+  size : (m : ℕ) → at + m ≤ length j → length (take m (drop at j)) ≡ m
+  size m h = length-take-le m (drop at j) (rw (length-drop at j) (omega arith))
+
+  pub num-4 : at + 2 ≤ length j → num 4 j at ≡ num 2 j at + 65536 * num 2 j (at + 2)
+  num-4 h =
+      let e = halves 2 2 h ∙ leNumber-append (take 2 (drop at j)) (take 2 (drop (at + 2) j)) in
+      rw (size 2 h) at e
+
+  pub num-8 : at + 4 ≤ length j → num 8 j at ≡ num 4 j at + 4294967296 * num 4 j (at + 4)
+  num-8 h =
+      let e = halves 4 4 h ∙ leNumber-append (take 4 (drop at j)) (take 4 (drop (at + 4) j)) in
+      rw (size 4 h) at e
+
+-- ---- a kind in version 1: its fields are s bytes, and make a record
+pub record Kind (kind s : ℕ) (j : List ℕ) (at : ℕ) (r : Record) : Type 0 where
+  pub known : eqb (length (widths 1 kind)) 0 ≡ false
+  pub size : sum (widths 1 kind) ≡ s
+  pub same : recordOf kind (fieldsIn (widths 1 kind) (drop (at + 1) j)) ≡ r
+
+module _ (j : List ℕ) (at : ℕ) where
+  on : (k n m : ℕ) → k + n ≡ m → drop n (drop (at + k) j) ≡ drop (at + m) j
+  on k n m e = let q : at + k + n ≡ at + m = omega arith in drop-drop n (at + k) j ∙ ap (λ (i : ℕ). drop i j) q
+
+  pub event-kind : Kind 1 17 j at (Event (num 4 j (at + 1)) (num 1 j (at + 5)) (num 8 j (at + 6)) (num 4 j (at + 14)))
+  unfolding recordOf fieldsIn widths sum pick
+  event-kind = record { known = refl; size = refl; same = rw (on 1 4 5 refl, on 5 1 6 refl, on 6 8 14 refl) refl }
+
+  pub interrupt-kind : Kind 2 24 j at (Interrupt (num 4 j (at + 1)) (num 4 j (at + 5)) (num 8 j (at + 9)) (num 8 j (at + 17)))
+  unfolding recordOf fieldsIn widths sum
+  interrupt-kind = record { known = refl; size = refl; same = rw (on 1 4 5 refl, on 5 4 9 refl, on 9 8 17 refl) refl }
+
+  pub write-kind : Kind 3 6 j at (Write (num 4 j (at + 1)) (num 2 j (at + 5)))
+  unfolding recordOf fieldsIn widths sum
+  write-kind = record { known = refl; size = refl; same = rw (on 1 4 5 refl) refl }
+
+  pub seed-kind : Kind 4 10 j at (Seed (num 4 j (at + 1)) (num 2 j (at + 5)) (num 4 j (at + 7)))
+  unfolding recordOf fieldsIn widths sum
+  seed-kind = record { known = refl; size = refl; same = rw (on 1 4 5 refl, on 5 2 7 refl) refl }
+
+  pub read-kind : Kind 5 6 j at (Read (num 4 j (at + 1)) (num 2 j (at + 5)))
+  unfolding recordOf fieldsIn widths sum
+  read-kind = record { known = refl; size = refl; same = rw (on 1 4 5 refl) refl }
+
+  pub blocking-kind : Kind 6 6 j at (BlockingRead (num 4 j (at + 1)) (num 2 j (at + 5)))
+  unfolding recordOf fieldsIn widths sum
+  blocking-kind = record { known = refl; size = refl; same = rw (on 1 4 5 refl) refl }
+
+-- what stands there, by how much of it is there
+module _ (kind s : ℕ) (j : List ℕ) (at : ℕ) (r : Record) (k : Kind kind s j at r) where
+  left : length (drop (at + 1) j) ≡ length j - (at + 1)
+  left = length-drop (at + 1) j
+
+  pub off : length j < at + 1 + s → at < length j → Stop cutShort ≡ opened 1 kind (at + 1) (drop (at + 1) j)
+  unfolding opened pick
+  off h l = let e = left in rw (k .known, k .size, lt-ltb (length (drop (at + 1) j)) s (omega arith)) refl
+
+  pub carried : (f : Found) (q : Record) (start : ℕ) → r ≡ q → at + 1 + s ≤ length j → start ≡ at + 1 + s → f ≡ carrying q start (length j - start)
+      → f ≡ opened 1 kind (at + 1) (drop (at + 1) j)
+  unfolding opened pick
+  carried f q start i h p g =
+      let e = left in
+      let d : length (drop (at + 1) j) - s ≡ length j - start = omega arith in
+      rw (k .known, k .size, le-ltb (length (drop (at + 1) j)) s (omega arith), k .same, i, d, ← p) g
+
+  pub full : (q : Record) (next : ℕ) → r ≡ q → carries q ≡ 0 → at + 1 + s ≤ length j → next ≡ at + 1 + s → One q next ≡ opened 1 kind (at + 1) (drop (at + 1) j)
+  unfolding carrying pick
+  full q next i z h p =
+      carried (One q next) q next i h p
+      (let o : next ≡ next + 0 = omega arith in rw (z, le-ltb (length j - next) 0 (omega arith)) (ap (One q) o))
+
+-- by the kind that stands there
+pub of-kind : (j : List ℕ) (at k : ℕ) (r : Found) → at < length j → getD j at 0 ≡ k → r ≡ opened 1 k (at + 1) (drop (at + 1) j) → r ≡ readAt 1 j at
+of-kind j at k r h e q =
+    let o : at + 1 ≡ suc at = omega arith in
+    q ∙ sym (opens 1 j at h ∙ ap₂ (λ (i n : ℕ). opened 1 i (at + 1) (drop n j)) e (sym o))
 
 -- a kind that is none of the six
-pub other : (j : List ℕ) (at k : ℕ) → (k ≡ 1 → ⊥) → (k ≡ 2 → ⊥) → (k ≡ 3 → ⊥) → (k ≡ 4 → ⊥) → (k ≡ 5 → ⊥) → (k ≡ 6 → ⊥) → recordAt j at k ≡ Stop unknownKind
-unfolding recordAt
+pub other : (j : List ℕ) (at k : ℕ) → (k ≡ 1 → ⊥) → (k ≡ 2 → ⊥) → (k ≡ 3 → ⊥) → (k ≡ 4 → ⊥) → (k ≡ 5 → ⊥) → (k ≡ 6 → ⊥) → Stop unknownKind ≡ opened 1 k (at + 1) (drop (at + 1) j)
+unfolding opened widths pick
 other j at zero a b c d e f = refl
 other j at (suc zero) a b c d e f = elim (a refl) [ ]
 other j at (suc (suc zero)) a b c d e f = elim (b refl) [ ]
@@ -46,11 +124,6 @@ other j at (suc (suc (suc (suc zero)))) a b c d e f = elim (d refl) [ ]
 other j at (suc (suc (suc (suc (suc zero))))) a b c d e f = elim (e refl) [ ]
 other j at (suc (suc (suc (suc (suc (suc zero)))))) a b c d e f = elim (f refl) [ ]
 other j at (suc (suc (suc (suc (suc (suc (suc k))))))) a b c d e f = refl
-
--- the kind that stands at a position says what stands there
-pub known : (j : List ℕ) (at k : ℕ) (r : Found) → at < length j → getD j at 0 ≡ k → r ≡ recordAt j at k → r ≡ readAt j at
-unfolding readAt pick
-known j at k r h e q = rw (lt-ltb, e) q
 
 -- as many bytes as there are
 module _ (j : List ℕ) (start len : ℕ) where

@@ -1,116 +1,134 @@
 -- Journals computed by the checker: the paper's example, and one for each number that can end a journal.
-use mathlib.Core.Path.{_≡_, refl}
+use mathlib.Core.Path.{_≡_, refl, sym, ap, _∙_}
 use mathlib.Core.List.{List, [], _∷_, _++_, map}
 use Prim.Native.Nat.{ℕ, _<_}
-use borrow.Author.Tests.{lt-ltb}
+use native.Mathlib.Omega.{arith}
 use lib.ListN.{length, replicate}
 use Rattle.ledger.specs.Choice.{pick}
-use Rattle.journal.specs.Fields.{num}
-use Rattle.journal.specs.Records.{readAt, recordAt, eventAt, interruptAt, writeAt, seedAt, generatorReadAt, blockingReadAt, whole, carried}
-use Rattle.journal.specs.Header.{headerWithin, headerOf}
-use Rattle.journal.specs.Ending.{endingFrom, endingOf, recordsFrom, recordsOf}
-use Rattle.journal.specs.Walking.{walkFrom, walk, recordsIn}
+use Rattle.ledger.specs.Sizes.{startBytes}
+use Rattle.words.specs.Bytes.{leNumber, leBytes}
+use Rattle.journal.specs.Layout.{widths, sum, kindOf, fieldsOf, recordOf, carries}
+use Rattle.journal.specs.Reading.{fieldsIn, carrying, opened, front, readAt}
+use Rattle.journal.specs.Writing.{laid, headOf, bytesOf, carriedBy}
+use Rattle.journal.specs.Header.{largest, heading, refusalWithin, headerWithin, headerOf}
+use Rattle.journal.specs.Walking.{Entry, Walk, walkFrom, walk, behind, walkOf, endingOf}
 use Rattle.journal.specs.Cutting.{upTo, reached, boundary, telling, enough, cutNumber, cutWalk, walkWithin}
+use Rattle.journal.specs.declared.records.Record.{Record}
 use Rattle.journal.specs.declared.records.Record.the-variants.{Event, Interrupt, Write, Seed, Read, BlockingRead}
 use Rattle.journal.specs.declared.records.Found.the-variants.{One}
+use Rattle.journal.proofs.GoodHeader.{header-number, too-large as Header·too-large}
+use Rattle.journal.proofs.Walks.{bad-walk}
+
+-- the records alone
+abbrev recordsIn : List Entry → List Record
+recordsIn es = map (λ (e : Entry). e .what) es
 
 -- a good header with a start of zero bytes
 opening : List ℕ
-opening = (78 ∷ 75 ∷ 74 ∷ 1 ∷ 0 ∷ []) ++ replicate 48 0
+opening = (78 ∷ 75 ∷ 74 ∷ 1 ∷ 0 ∷ []) ++ replicate startBytes 0
 
 -- the paper's example: kind 5, now 0, length 4
 paper : List ℕ
 paper = opening ++ (5 ∷ 0 ∷ 0 ∷ 0 ∷ 0 ∷ 4 ∷ 0 ∷ [])
 
-paper-read : readAt paper 53 ≡ One (Read 0 4) 60
-unfolding paper opening readAt recordAt generatorReadAt whole num pick
+paper-read : readAt 1 paper 53 ≡ One (Read 0 4) 60
+unfolding paper opening readAt front opened carrying fieldsIn widths sum recordOf carries leNumber pick
 paper-read = refl
 
-paper-records : recordsOf paper ≡ Read 0 4 ∷ []
-unfolding paper opening recordsOf recordsFrom headerOf headerWithin readAt recordAt generatorReadAt whole num pick
+paper-records : recordsIn (walkOf paper .entries) ≡ Read 0 4 ∷ []
+unfolding paper opening walkOf behind walk headerOf headerWithin refusalWithin walkFrom readAt front opened carrying fieldsIn widths sum recordOf carries leNumber pick
 paper-records = refl
 
 paper-ends : endingOf paper ≡ 0
-unfolding paper opening endingOf endingFrom headerOf headerWithin readAt recordAt generatorReadAt whole num pick
+unfolding paper opening walkOf behind walk headerOf headerWithin refusalWithin walkFrom readAt front opened carrying fieldsIn widths sum recordOf carries leNumber pick
 paper-ends = refl
 
 -- a record of each kind, no two bytes of which are the same within a record: every field is where it is and not another
-each-kind :
-    recordsOf
-    (opening
+kinds : List ℕ
+kinds =
+    opening
     ++ (1 ∷ 1 ∷ 2 ∷ 3 ∷ 4 ∷ 5 ∷ 6 ∷ 7 ∷ 8 ∷ 9 ∷ 10 ∷ 11 ∷ 12 ∷ 13 ∷ 14 ∷ 15 ∷ 16 ∷ 17
     ∷ 2 ∷ 18 ∷ 19 ∷ 20 ∷ 21 ∷ 22 ∷ 23 ∷ 24 ∷ 25 ∷ 26 ∷ 27 ∷ 28 ∷ 29 ∷ 30 ∷ 31 ∷ 32 ∷ 33 ∷ 34 ∷ 35 ∷ 36 ∷ 37 ∷ 38 ∷ 39 ∷ 40 ∷ 41
     ∷ 3 ∷ 42 ∷ 43 ∷ 44 ∷ 45 ∷ 2 ∷ 0 ∷ 46 ∷ 47
     ∷ 4 ∷ 48 ∷ 49 ∷ 50 ∷ 51 ∷ 1 ∷ 0 ∷ 52 ∷ 53 ∷ 54 ∷ 55 ∷ 56
     ∷ 5 ∷ 57 ∷ 58 ∷ 59 ∷ 60 ∷ 61 ∷ 62
-    ∷ 6 ∷ 63 ∷ 64 ∷ 65 ∷ 66 ∷ 67 ∷ 68 ∷ []))
+    ∷ 6 ∷ 63 ∷ 64 ∷ 65 ∷ 66 ∷ 67 ∷ 68 ∷ [])
+
+each-kind : recordsIn (walkOf kinds .entries)
     ≡ Event 0x04030201 5 0x0d0c0b0a09080706 0x11100f0e ∷ Interrupt 0x15141312 0x19181716 0x21201f1e1d1c1b1a 0x2928272625242322
-    ∷ Write 0x2d2c2b2a 103 2 ∷ Seed 0x33323130 0x37363534 116 1 ∷ Read 0x3c3b3a39 0x3e3d ∷ BlockingRead 0x4241403f 0x4443 ∷ []
-unfolding opening recordsOf recordsFrom headerOf headerWithin readAt recordAt eventAt interruptAt writeAt seedAt generatorReadAt blockingReadAt whole carried num pick
+    ∷ Write 0x2d2c2b2a 2 ∷ Seed 0x33323130 1 0x37363534 ∷ Read 0x3c3b3a39 0x3e3d ∷ BlockingRead 0x4241403f 0x4443 ∷ []
+unfolding kinds opening walkOf behind walk headerOf headerWithin refusalWithin walkFrom readAt front opened carrying fieldsIn widths sum recordOf carries leNumber pick
 each-kind = refl
+
+-- and so are the bytes that a write and a seed carry
+each-carried : map (λ (e : Entry). carriedBy kinds (e .what) (e .next)) (walkOf kinds .entries)
+    ≡ [] ∷ [] ∷ (46 ∷ 47 ∷ []) ∷ (56 ∷ []) ∷ [] ∷ [] ∷ []
+unfolding kinds opening carriedBy walkOf behind walk headerOf headerWithin refusalWithin walkFrom readAt front opened carrying fieldsIn widths sum recordOf carries leNumber pick
+each-carried = refl
 
 -- ---- the numbers as they are printed
 -- 12: any bytes, if there are more than 61,440 of them
-too-large : (j : List ℕ) → 61440 < length j → endingOf j ≡ 12
-unfolding endingOf headerOf headerWithin pick
-too-large j h = rw (lt-ltb 61440 (length j) h)
+too-large : (j : List ℕ) → largest < length j → endingOf j ≡ 12
+too-large j h =
+    let n : headerOf j .number ≡ 12 = header-number j ∙ sym (Header·too-large (length j) j h) in
+    ap (λ (w : Walk). w .number) (bad-walk j (λ z. omega (arith, n, z))) ∙ n
 
 -- 8: no bytes; a last letter that is not ours, although no version follows it
 no-mark : endingOf [] ≡ 8
-unfolding endingOf headerOf headerWithin pick
+unfolding walkOf behind headerOf headerWithin refusalWithin leNumber pick
 no-mark = refl
 
 mark-wrong : endingOf (78 ∷ 75 ∷ 75 ∷ []) ≡ 8
-unfolding endingOf headerOf headerWithin pick
+unfolding walkOf behind headerOf headerWithin refusalWithin leNumber pick
 mark-wrong = refl
 
 -- 10: half a version
 version-missing : endingOf (78 ∷ 75 ∷ 74 ∷ 1 ∷ []) ≡ 10
-unfolding endingOf headerOf headerWithin pick
+unfolding walkOf behind headerOf headerWithin refusalWithin leNumber pick
 version-missing = refl
 
 -- 9: version 2, although no start follows it
 version-wrong : endingOf (78 ∷ 75 ∷ 74 ∷ 2 ∷ 0 ∷ []) ≡ 9
-unfolding endingOf headerOf headerWithin num pick
+unfolding walkOf behind headerOf headerWithin refusalWithin leNumber pick
 version-wrong = refl
 
 -- 10: 47 start bytes
 start-missing : endingOf ((78 ∷ 75 ∷ 74 ∷ 1 ∷ 0 ∷ []) ++ replicate 47 0) ≡ 10
-unfolding endingOf headerOf headerWithin num pick
+unfolding walkOf behind headerOf headerWithin refusalWithin leNumber pick
 start-missing = refl
 
 -- 10: a seed of no bytes, whose credit has three bytes of four
 credit-cut : endingOf (opening ++ (4 ∷ 0 ∷ 0 ∷ 0 ∷ 0 ∷ 0 ∷ 0 ∷ 1 ∷ 0 ∷ 0 ∷ [])) ≡ 10
-unfolding opening endingOf endingFrom headerOf headerWithin readAt recordAt seedAt whole num pick
+unfolding opening walkOf behind walk headerOf headerWithin refusalWithin walkFrom readAt front opened carrying fieldsIn widths sum recordOf carries leNumber pick
 credit-cut = refl
 
 -- 10: a write of two bytes that has one
 bytes-cut : endingOf (opening ++ (3 ∷ 0 ∷ 0 ∷ 0 ∷ 0 ∷ 2 ∷ 0 ∷ 9 ∷ [])) ≡ 10
-unfolding opening endingOf endingFrom headerOf headerWithin readAt recordAt writeAt whole carried num pick
+unfolding opening walkOf behind walk headerOf headerWithin refusalWithin walkFrom readAt front opened carrying fieldsIn widths sum recordOf carries leNumber pick
 bytes-cut = refl
 
 -- 11: kinds 0 and 7
 kind-0 : endingOf (opening ++ (0 ∷ [])) ≡ 11
-unfolding opening endingOf endingFrom headerOf headerWithin readAt recordAt num pick
+unfolding opening walkOf behind walk headerOf headerWithin refusalWithin walkFrom readAt front opened carrying fieldsIn widths sum recordOf carries leNumber pick
 kind-0 = refl
 
 kind-7 : endingOf (opening ++ (7 ∷ [])) ≡ 11
-unfolding opening endingOf endingFrom headerOf headerWithin readAt recordAt num pick
+unfolding opening walkOf behind walk headerOf headerWithin refusalWithin walkFrom readAt front opened carrying fieldsIn widths sum recordOf carries leNumber pick
 kind-7 = refl
 
 -- 3: a write of 4,097 bytes, of which none is there
 too-long : endingOf (opening ++ (3 ∷ 0 ∷ 0 ∷ 0 ∷ 0 ∷ 1 ∷ 16 ∷ [])) ≡ 3
-unfolding opening endingOf endingFrom headerOf headerWithin readAt recordAt writeAt whole carried num pick
+unfolding opening walkOf behind walk headerOf headerWithin refusalWithin walkFrom readAt front opened carrying fieldsIn widths sum recordOf carries leNumber pick
 too-long = refl
 
 -- 0: a blocking read of 65,535 bytes is a record like any other
-long-read : recordsOf (opening ++ (6 ∷ 1 ∷ 0 ∷ 0 ∷ 0 ∷ 255 ∷ 255 ∷ [])) ≡ BlockingRead 1 65535 ∷ []
-unfolding opening recordsOf recordsFrom headerOf headerWithin readAt recordAt blockingReadAt whole num pick
+long-read : recordsIn (walkOf (opening ++ (6 ∷ 1 ∷ 0 ∷ 0 ∷ 0 ∷ 255 ∷ 255 ∷ [])) .entries) ≡ BlockingRead 1 65535 ∷ []
+unfolding opening walkOf behind walk headerOf headerWithin refusalWithin walkFrom readAt front opened carrying fieldsIn widths sum recordOf carries leNumber pick
 long-read = refl
 
 -- the records before the end are kept: a write of one byte, and an unknown kind behind it
-kept : recordsOf (opening ++ (3 ∷ 0 ∷ 0 ∷ 0 ∷ 0 ∷ 1 ∷ 0 ∷ 9 ∷ 7 ∷ [])) ≡ Write 0 60 1 ∷ []
-unfolding opening recordsOf recordsFrom headerOf headerWithin readAt recordAt writeAt whole carried num pick
+kept : recordsIn (walkOf (opening ++ (3 ∷ 0 ∷ 0 ∷ 0 ∷ 0 ∷ 1 ∷ 0 ∷ 9 ∷ 7 ∷ [])) .entries) ≡ Write 0 1 ∷ []
+unfolding opening walkOf behind walk headerOf headerWithin refusalWithin walkFrom readAt front opened carrying fieldsIn widths sum recordOf carries leNumber pick
 kept = refl
 
 -- ---- cut at a byte: a write of one byte and an unknown kind, 62 bytes in all
@@ -120,15 +138,29 @@ torn = opening ++ (3 ∷ 0 ∷ 0 ∷ 0 ∷ 0 ∷ 1 ∷ 0 ∷ 9 ∷ 7 ∷ [])
 -- 8 and 10 in the header; 0 right behind it and behind the write; 10 within the write; 11 with the unknown kind
 torn-at : map (λ n. walkWithin n torn .number) (2 ∷ 4 ∷ 52 ∷ 53 ∷ 54 ∷ 60 ∷ 61 ∷ 62 ∷ [])
     ≡ 8 ∷ 10 ∷ 10 ∷ 0 ∷ 10 ∷ 10 ∷ 0 ∷ 11 ∷ []
-unfolding torn opening walkWithin cutWalk cutNumber enough telling upTo reached boundary headerWithin walk walkFrom readAt recordAt writeAt whole carried num pick
+unfolding torn opening walkWithin behind cutWalk cutNumber enough telling upTo reached boundary walk headerWithin refusalWithin walkFrom readAt front opened carrying fieldsIn widths sum recordOf carries leNumber pick
 torn-at = refl
 
 -- the write is there exactly if its last byte is
-torn-kept : map (λ n. recordsIn (walkWithin n torn)) (60 ∷ 61 ∷ []) ≡ [] ∷ (Write 0 60 1 ∷ []) ∷ []
-unfolding torn opening walkWithin cutWalk cutNumber enough telling upTo reached boundary headerWithin walk walkFrom readAt recordAt writeAt whole carried num pick
+torn-kept : map (λ n. recordsIn (walkWithin n torn .entries)) (60 ∷ 61 ∷ []) ≡ [] ∷ (Write 0 1 ∷ []) ∷ []
+unfolding torn opening walkWithin behind cutWalk cutNumber enough telling upTo reached boundary walk headerWithin refusalWithin walkFrom readAt front opened carrying fieldsIn widths sum recordOf carries leNumber pick
 torn-kept = refl
 
 -- a write of 4,097 bytes is told by its seven bytes, and not by six
 torn-long : map (λ n. walkWithin n (opening ++ (3 ∷ 0 ∷ 0 ∷ 0 ∷ 0 ∷ 1 ∷ 16 ∷ 9 ∷ [])) .number) (59 ∷ 60 ∷ []) ≡ 10 ∷ 3 ∷ []
-unfolding opening walkWithin cutWalk cutNumber enough telling upTo reached boundary headerWithin walk walkFrom readAt recordAt writeAt whole carried num pick
+unfolding opening walkWithin behind cutWalk cutNumber enough telling upTo reached boundary walk headerWithin refusalWithin walkFrom readAt front opened carrying fieldsIn widths sum recordOf carries leNumber pick
 torn-long = refl
+
+-- ---- what the header says, and a record as bytes
+paper-header : headerOf paper ≡ heading 0 1 53
+unfolding paper opening headerOf headerWithin refusalWithin leNumber pick
+paper-header = refl
+
+-- of version 2 nothing is said but that it is not known
+version-2 : headerOf ((78 ∷ 75 ∷ 74 ∷ 2 ∷ 0 ∷ []) ++ replicate startBytes 0) ≡ heading 9 0 0
+unfolding headerOf headerWithin refusalWithin leNumber pick
+version-2 = refl
+
+event-bytes : bytesOf 1 (Event 1 2 3 4) [] ≡ 1 ∷ 1 ∷ 0 ∷ 0 ∷ 0 ∷ 2 ∷ 3 ∷ 0 ∷ 0 ∷ 0 ∷ 0 ∷ 0 ∷ 0 ∷ 0 ∷ 4 ∷ 0 ∷ 0 ∷ 0 ∷ []
+unfolding bytesOf headOf laid leBytes kindOf fieldsOf widths pick
+event-bytes = refl

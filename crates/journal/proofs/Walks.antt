@@ -1,36 +1,35 @@
--- Going record by record: what holds wherever nothing follows, and of a position if of the next, holds everywhere. And what is read off a walk.
+-- Going record by record: what holds wherever nothing follows, and of a position if of the next, holds everywhere.
 use mathlib.Core.Path.{_≡_, refl, sym, ap, _∙_}
-use mathlib.Core.Bool.{Bool, true, false}
-use mathlib.Core.List.{List, _∷_}
+use mathlib.Core.List.{List}
 use Prim.Native.Nat.{ℕ, zero, suc, _+_, _≤_, _<_}
 use native.Mathlib.Omega.{arith}
-use borrow.Author.Tests.{eq-eqb, ne-eqb}
-use lib.Dec.{eqb}
+use borrow.Author.Tests.{ne-eqb}
 use lib.ListN.{length}
 use Rattle.ledger.specs.Choice.{pick}
-use Rattle.journal.specs.Records.{readAt}
-use Rattle.journal.specs.Header.{headerOf}
-use Rattle.journal.specs.Ending.{endingFrom, endingOf, recordsFrom, recordsOf}
-use Rattle.journal.specs.Walking.{entry, Walk, onto, halt, step, walkFrom, walk, walkOf, recordsIn}
+use Rattle.journal.specs.Reading.{readAt}
+use Rattle.journal.specs.Header.{recordsBegin, headerOf}
+use Rattle.journal.specs.Walking.{entry, Walk, onto, halt, step, walkFrom, walk, behind, walkOf, endingOf}
+use Rattle.journal.specs.declared.heading.Heading.{Heading}
 use Rattle.journal.specs.declared.records.Record.{Record}
 use Rattle.journal.specs.declared.records.Found.{Found}
 use Rattle.journal.specs.declared.records.Found.the-variants.{One, Stop, End}
-use Rattle.journal.proofs.Onward.{past}
-use Rattle.journal.proofs.Laws.{read-ahead}
+use Rattle.journal.proofs.Cut.{past}
+use Rattle.journal.proofs.Onward.{read-ahead}
+use Rattle.journal.proofs.GoodHeader.{heading-good}
 
 -- THE INDUCTION over a walk
-module _ (j : List ℕ) (P : ℕ → Type 0)
-    (one : (at : ℕ) (r : Record) (next : ℕ) → readAt j at ≡ One r next → P next → P at)
-    (stop : (at n : ℕ) → readAt j at ≡ Stop n → P at)
-    (over : (at : ℕ) → readAt j at ≡ End → P at) where
-  by-what : (at : ℕ) (x : Found) → readAt j at ≡ x → ((next : ℕ) → at < next → P next) → P at
-  by-what at (One r next) e on = one at r next e (on next (read-ahead j at r next e .0))
+module _ (v : ℕ) (j : List ℕ) (P : ℕ → Type 0)
+    (one : (at : ℕ) (r : Record) (next : ℕ) → readAt v j at ≡ One r next → P next → P at)
+    (stop : (at n : ℕ) → readAt v j at ≡ Stop n → P at)
+    (over : (at : ℕ) → readAt v j at ≡ End → P at) where
+  by-what : (at : ℕ) (x : Found) → readAt v j at ≡ x → ((next : ℕ) → at < next → P next) → P at
+  by-what at (One r next) e on = one at r next e (on next (read-ahead v j at r next e .0))
   by-what at (Stop n) e on = stop at n e
   by-what at End e on = over at e
 
   within : (f at : ℕ) → length j ≤ at + f → P at
-  within zero at h = over at (past j at (omega arith))
-  within (suc f) at h = by-what at (readAt j at) refl (λ next l. within f next (omega (arith, l, h)))
+  within zero at h = over at (past v j at (omega arith))
+  within (suc f) at h = by-what at (readAt v j at) refl (λ next l. within f next (omega (arith, l, h)))
 
   pub along : (at : ℕ) → P at
   along at = within (length j) at (omega arith)
@@ -41,72 +40,59 @@ step-same at (Stop n) g h e = refl
 step-same at End g h e = refl
 
 -- more turns than bytes add nothing
-steady : (f : ℕ) (j : List ℕ) (at : ℕ) → length j ≤ at + f → walkFrom (suc f) j at ≡ walkFrom f j at
+steady : (f v : ℕ) (j : List ℕ) (at : ℕ) → length j ≤ at + f → walkFrom (suc f) v j at ≡ walkFrom f v j at
 unfolding walkFrom
-steady zero j at h = rw (past j at (omega arith)) refl
-steady (suc f) j at h =
-    step-same at (readAt j at) (walkFrom (suc f) j) (walkFrom f j) (λ r next e. steady f j next (omega (arith, h, read-ahead j at r next e .0)))
+steady zero v j at h = rw (past v j at (omega arith)) refl
+steady (suc f) v j at h =
+    step-same at (readAt v j at) (walkFrom (suc f) v j) (walkFrom f v j) (λ r next e. steady f v j next (omega (arith, h, read-ahead v j at r next e .0)))
 
 -- A WALK is what stands there, and the walk from behind it
-pub unroll : (j : List ℕ) (at : ℕ) → walk j at ≡ step at (readAt j at) (walk j)
+pub unroll : (v : ℕ) (j : List ℕ) (at : ℕ) → walk v j at ≡ step at (readAt v j at) (walk v j)
 unfolding walk walkFrom
-unroll j at = sym (steady (length j) j at (omega arith))
+unroll v j at = sym (steady (length j) v j at (omega arith))
 
-module _ (j : List ℕ) (at : ℕ) where
-  pub walk-one : (r : Record) (next : ℕ) → readAt j at ≡ One r next → walk j at ≡ onto (entry at r next) (walk j next)
-  walk-one r next e = unroll j at ∙ ap (λ (x : Found). step at x (walk j)) e
+module _ (v : ℕ) (j : List ℕ) (at : ℕ) where
+  pub walk-one : (r : Record) (next : ℕ) → readAt v j at ≡ One r next → walk v j at ≡ onto (entry at r next) (walk v j next)
+  walk-one r next e = unroll v j at ∙ ap (λ (x : Found). step at x (walk v j)) e
 
-  pub walk-stop : (n : ℕ) → readAt j at ≡ Stop n → walk j at ≡ halt at n
-  walk-stop n e = unroll j at ∙ ap (λ (x : Found). step at x (walk j)) e
+  pub walk-stop : (n : ℕ) → readAt v j at ≡ Stop n → walk v j at ≡ halt at n
+  walk-stop n e = unroll v j at ∙ ap (λ (x : Found). step at x (walk v j)) e
 
-  pub walk-end : readAt j at ≡ End → walk j at ≡ halt at 0
-  walk-end e = unroll j at ∙ ap (λ (x : Found). step at x (walk j)) e
+  pub walk-end : readAt v j at ≡ End → walk v j at ≡ halt at 0
+  walk-end e = unroll v j at ∙ ap (λ (x : Found). step at x (walk v j)) e
 
 -- ---- a whole journal
 module _ (j : List ℕ) where
-  pub good-walk : headerOf j ≡ 0 → walkOf j ≡ walk j 53
-  unfolding walkOf pick
-  good-walk h = rw (eq-eqb (headerOf j) 0 h) refl
+  pub good-walk : headerOf j .number ≡ 0 → walkOf j ≡ walk 1 j recordsBegin
+  unfolding walkOf behind pick
+  good-walk h = rw (heading-good j h) refl
 
-  pub bad-walk : (headerOf j ≡ 0 → ⊥) → walkOf j ≡ halt 0 (headerOf j)
-  unfolding walkOf pick
-  bad-walk h = rw (ne-eqb (headerOf j) 0 h) refl
+  pub bad-walk : (headerOf j .number ≡ 0 → ⊥) → walkOf j ≡ halt 0 (headerOf j .number)
+  unfolding walkOf behind pick
+  bad-walk h = rw (ne-eqb (headerOf j .number) 0 h) refl
 
--- ---- the number and the records are read off the walk
-pub ending-from : (f : ℕ) (j : List ℕ) (at : ℕ) → endingFrom f j at ≡ walkFrom f j at .number
-unfolding endingFrom walkFrom
-ending-from zero j at = refl
-ending-from (suc f) j at = by (readAt j at) refl (λ next. ending-from f j next)
-  where
-    by : (x : Found) → readAt j at ≡ x → ((next : ℕ) → endingFrom f j next ≡ walkFrom f j next .number) → endingFrom (suc f) j at ≡ walkFrom (suc f) j at .number
-    by (One r next) e on = rw e (on next)
-    by (Stop n) e on = rw e refl
-    by End e on = rw e refl
+abbrev number : Heading → ℕ
+number h = h .number
 
-pub records-from : (f : ℕ) (j : List ℕ) (at : ℕ) → recordsFrom f j at ≡ recordsIn (walkFrom f j at)
-unfolding recordsFrom walkFrom
-records-from zero j at = refl
-records-from (suc f) j at = by (readAt j at) refl (λ next. records-from f j next)
-  where
-    by : (x : Found) → readAt j at ≡ x → ((next : ℕ) → recordsFrom f j next ≡ recordsIn (walkFrom f j next)) → recordsFrom (suc f) j at ≡ recordsIn (walkFrom (suc f) j at)
-    by (One r next) e on = rw e (ap (λ (rs : List Record). r ∷ rs) (on next))
-    by (Stop n) e on = rw e refl
-    by End e on = rw e refl
+abbrev ending : Walk → ℕ
+ending w = w .number
 
--- THE ENDING
-pub ending-walked : (j : List ℕ) → endingOf j ≡ walkOf j .number
-unfolding endingOf walkOf walk pick
-ending-walked j = by (eqb (headerOf j) 0) refl
-  where
-    by : (b : Bool) → eqb (headerOf j) 0 ≡ b → endingOf j ≡ walkOf j .number
-    by true e = rw e (ending-from (length j) j 53)
-    by false e = rw e refl
+-- ---- the number that ends a journal, by the header that was found and record by record
+module _ (j : List ℕ) (h : Heading) (e : h ≡ headerOf j) where
+  pub refused : (h .number ≡ 0 → ⊥) → h .number ≡ endingOf j
+  refused n = ap number e ∙ sym (ap ending (bad-walk j (λ z. n (ap number e ∙ z))))
 
--- THE RECORDS
-pub records-walked : (j : List ℕ) → recordsOf j ≡ recordsIn (walkOf j)
-unfolding recordsOf walkOf walk pick
-records-walked j = by (eqb (headerOf j) 0) refl
-  where
-    by : (b : Bool) → eqb (headerOf j) 0 ≡ b → recordsOf j ≡ recordsIn (walkOf j)
-    by true e = rw e (records-from (length j) j 53)
-    by false e = rw e refl
+  pub begun : h .number ≡ 0 → walk 1 j (h .place) .number ≡ endingOf j
+  begun z =
+      let g : headerOf j .number ≡ 0 = sym (ap number e) ∙ z in
+      ap (λ (x : Heading). walk 1 j (x .place) .number) (e ∙ heading-good j g) ∙ sym (ap ending (good-walk j g))
+
+module _ (j : List ℕ) (at : ℕ) (left : walk 1 j at .number ≡ endingOf j) where
+  pub past-one : (r : Record) (next : ℕ) → readAt 1 j at ≡ One r next → walk 1 j next .number ≡ endingOf j
+  past-one r next e = sym (ap ending (walk-one 1 j at r next e)) ∙ left
+
+  pub at-stop : (n : ℕ) → readAt 1 j at ≡ Stop n → n ≡ endingOf j
+  at-stop n e = sym (ap ending (walk-stop 1 j at n e)) ∙ left
+
+  pub at-end : readAt 1 j at ≡ End → 0 ≡ endingOf j
+  at-end e = sym (ap ending (walk-end 1 j at e)) ∙ left

@@ -1,6 +1,6 @@
-pub mod Fields
-pub mod Records
+pub mod Layout
+pub mod Reading
 pub mod Header
-pub mod Ending
 pub mod Walking
+pub mod Writing
 pub mod Cutting

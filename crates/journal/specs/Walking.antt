@@ -1,11 +1,12 @@
 -- The walk: record by record from a position on, up to the first where no record stands. What a journal has and how it ends is read off it.
 use Prim.Native.Nat.{ℕ, zero, suc}
-use mathlib.Core.List.{List, [], _∷_, map}
+use mathlib.Core.List.{List, [], _∷_}
 use lib.ListN.{length}
 use lib.Dec.{eqb}
 use Rattle.ledger.specs.Choice.{pick}
-use Rattle.journal.specs.Records.{readAt}
+use Rattle.journal.specs.Reading.{readAt}
 use Rattle.journal.specs.Header.{headerOf}
+use Rattle.journal.specs.declared.heading.Heading.{Heading}
 use Rattle.journal.specs.declared.records.Record.{Record}
 use Rattle.journal.specs.declared.records.Found.{Found}
 use Rattle.journal.specs.declared.records.Found.the-variants.{One, Stop, End}
@@ -37,18 +38,22 @@ step at (Stop n) rest = halt at n
 step at End rest = halt at 0
 
 -- f records at most
-unfoldable pub walkFrom : ℕ → List ℕ → ℕ → Walk
-walkFrom zero j at = halt at 0
-walkFrom (suc f) j at = step at (readAt j at) (walkFrom f j)
+unfoldable pub walkFrom : ℕ → ℕ → List ℕ → ℕ → Walk
+walkFrom zero v j at = halt at 0
+walkFrom (suc f) v j at = step at (readAt v j at) (walkFrom f v j)
 
 -- a record is at least one byte, so the journal's length is enough
-unfoldable pub walk : List ℕ → ℕ → Walk
-walk j at = walkFrom (length j) j at
+unfoldable pub walk : ℕ → List ℕ → ℕ → Walk
+walk v j at = walkFrom (length j) v j at
 
--- the walk of a journal, from behind its header; where that is not good, no record and its number
+-- a walk from behind a header; where that is not good, no record and its number
+unfoldable pub behind : Heading → (ℕ → ℕ → Walk) → Walk
+behind h w = pick (eqb (h .number) 0) (w (h .version) (h .place)) (halt 0 (h .number))
+
+-- the walk of a journal
 unfoldable pub walkOf : List ℕ → Walk
-walkOf j = pick (eqb (headerOf j) 0) (walk j 53) (halt 0 (headerOf j))
+walkOf j = behind (headerOf j) (λ v at. walk v j at)
 
--- the records alone
-abbrev pub recordsIn : Walk → List Record
-recordsIn w = map (λ (e : Entry). e .what) (w .entries)
+-- the number that a journal ends with. It takes the bytes alone: no keeper, and no answer of one, has a say in where a journal ends.
+abbrev pub endingOf : List ℕ → ℕ
+endingOf j = walkOf j .number

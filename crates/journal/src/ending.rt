@@ -1,6 +1,6 @@
 // A journal judged as a whole, without running it.
 ghost use mathlib.Core.Path.{_≡_};
-ghost use Rattle.journal.specs.Ending.{endingOf};
+ghost use Rattle.journal.specs.Walking.{endingOf};
 use crate::heading::header;
 use crate::records::Found;
 use crate::records::read;
@@ -9,11 +9,11 @@ use crate::records::read;
 pub fn scan(j: &[u8]) -> u32
     ensures { λ r. ⌜ r ≡ endingOf (now (j .entry)) ⌝ }
 {
-    let refused = header(j);
-    if refused != 0 {
-        return refused;
+    let h = header(j);
+    if h.number != 0 {
+        return h.number;
     }
-    let mut at = 53;
+    let mut at = h.place;
     loop {
         match read(j, at) {
             Found::One(_, next) => {

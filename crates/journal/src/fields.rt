@@ -2,14 +2,21 @@
 ghost use mathlib.Core.Path.{_≡_};
 ghost use Prim.Native.Nat.{_+_, _≤_, _<_};
 ghost use lib.ListN.{length};
-ghost use Rattle.journal.specs.Fields.{num};
+ghost use Rattle.journal.specs.Reading.{num};
+
+// A byte as a word, with its bound.
+pub fn wide(b: u8) -> u32
+    ensures { λ r. ⌜ (r ≡ b) × (r < 256) ⌝ }
+{
+    b as u32
+}
 
 // The number that two bytes make.
 pub fn two(j: &[u8], at: usize) -> u32
     requires { ⌜ at + 2 ≤ length (now j) ⌝ }
     ensures { λ r. ⌜ (r ≡ num 2 (now (j .entry)) at) × (r < 65536) ⌝ }
 {
-    j[at] as u32 + 256 * (j[at + 1] as u32)
+    wide(j[at]) + 256 * wide(j[at + 1])
 }
 
 // The number that four bytes make.

@@ -1,9 +1,10 @@
 // The bytes that a record carries, as a part of the journal itself: nothing is copied.
 ghost use mathlib.Core.Path.{_≡_};
+ghost use Prim.Native.Nat.{_-_};
 ghost use lib.ListN.{take, drop};
 
-// The `len` bytes from `start` on, or as many of them as the journal has. Of a record that was read it has them all.
-pub fn payload(j: &[u8], start: usize, len: usize) -> &[u8]
+// The `len` bytes from `start` on, or as many of them as the journal has.
+fn part(j: &[u8], start: usize, len: usize) -> &[u8]
     ensures { λ r. ⌜ now r ≡ take len (drop start (now (j .entry))) ⌝ }
 {
     if j.len() <= start {
@@ -13,4 +14,14 @@ pub fn payload(j: &[u8], start: usize, len: usize) -> &[u8]
         return &j[start..];
     }
     &j[start..start + len]
+}
+
+// The last `len` bytes before the position `next`. Of a record that was read the journal has them all.
+pub fn payload(j: &[u8], next: usize, len: usize) -> &[u8]
+    ensures { λ r. ⌜ now r ≡ take len (drop (next - len) (now (j .entry))) ⌝ }
+{
+    if next < len {
+        return part(j, 0, len);
+    }
+    part(j, next - len, len)
 }

@@ -1,20 +1,23 @@
 // The records: what stands at a position of a journal, one function for each kind. A record is read only where all its bytes are there.
 ghost use mathlib.Core.Path.{_≡_};
-ghost use Prim.Native.Nat.{_≤_, _<_};
-ghost use lib.ListN.{length};
-ghost use Rattle.journal.specs.Records.{readAt, eventAt, interruptAt, writeAt, seedAt, generatorReadAt, blockingReadAt, carried};
+ghost use Prim.Native.Nat.{_+_, _-_, _≤_, _<_};
+ghost use lib.ListN.{length, drop};
+ghost use Rattle.journal.specs.Layout.{carries};
+ghost use Rattle.journal.specs.Reading.{readAt, opened, carrying};
 use crate::fields::eight;
 use crate::fields::four;
 use crate::fields::two;
+use crate::fields::wide;
 use crate::numbers::CUT_SHORT;
 use crate::numbers::TOO_LONG;
 use crate::numbers::UNKNOWN_KIND;
+use ledger::sizes::LONGEST;
 
-// A record. The bytes of a write or a seed are the `len` bytes of the journal from `start` on; `payload` hands them over.
+// A record: its fields. The `len` bytes of a write or a seed are the last before the position after it; `payload` hands them over.
 pub enum Record {
     Event {
         now: u32,
-        device: u8,
+        device: u32,
         stamp: u64,
         value: u32,
     },
@@ -26,14 +29,12 @@ pub enum Record {
     },
     Write {
         now: u32,
-        start: usize,
         len: usize,
     },
     Seed {
         now: u32,
-        credit: u32,
-        start: usize,
         len: usize,
+        credit: u32,
     },
     Read {
         now: u32,
@@ -52,9 +53,9 @@ pub enum Found {
     End,
 }
 
-// What stands at a position.
+// What stands at a position, in version 1.
 pub fn read(j: &[u8], at: usize) -> Found
-    ensures { λ r. ⌜ r ≡ readAt (now (j .entry)) at ⌝ }
+    ensures { λ r. ⌜ r ≡ readAt 1 (now (j .entry)) at ⌝ }
 {
     if j.len() <= at {
         return Found::End;
@@ -73,18 +74,19 @@ pub fn read(j: &[u8], at: usize) -> Found
 // Kind 1.
 fn event(j: &[u8], at: usize) -> Found
     requires { ⌜ at < length (now j) ⌝ }
-    ensures { λ r. ⌜ r ≡ eventAt (now (j .entry)) at ⌝ }
+    ensures { λ r. ⌜ r ≡ opened 1 1 (at + 1) (drop (at + 1) (now (j .entry))) ⌝ }
 {
     if j.len() - at < 18 {
         return Found::Stop(CUT_SHORT);
     }
     let now = four(j, at + 1);
+    let device = wide(j[at + 5]);
     let stamp = eight(j, at + 6);
     let value = four(j, at + 14);
     Found::One(
         Record::Event {
             now,
-            device: j[at + 5],
+            device,
             stamp,
             value,
         },
@@ -95,7 +97,7 @@ fn event(j: &[u8], at: usize) -> Found
 // Kind 2.
 fn interrupt(j: &[u8], at: usize) -> Found
     requires { ⌜ at < length (now j) ⌝ }
-    ensures { λ r. ⌜ r ≡ interruptAt (now (j .entry)) at ⌝ }
+    ensures { λ r. ⌜ r ≡ opened 1 2 (at + 1) (drop (at + 1) (now (j .entry))) ⌝ }
 {
     if j.len() - at < 25 {
         return Found::Stop(CUT_SHORT);
@@ -117,10 +119,10 @@ fn interrupt(j: &[u8], at: usize) -> Found
 
 // A record that carries the `len` bytes from `start` on: the length is judged before the bytes are.
 fn carry(j: &[u8], it: Record, start: usize, len: usize) -> Found
-    requires { ⌜ start ≤ length (now j) ⌝ }
-    ensures { λ r. ⌜ r ≡ carried (now (j .entry)) it start len ⌝ }
+    requires { ⌜ (start ≤ length (now j)) × (len ≡ carries it) ⌝ }
+    ensures { λ r. ⌜ r ≡ carrying it start (length (now (j .entry)) - start) ⌝ }
 {
-    if len > 4096 {
+    if len > LONGEST {
         return Found::Stop(TOO_LONG);
     }
     if j.len() - start < len {
@@ -132,21 +134,20 @@ fn carry(j: &[u8], it: Record, start: usize, len: usize) -> Found
 // Kind 3.
 fn write(j: &[u8], at: usize) -> Found
     requires { ⌜ at < length (now j) ⌝ }
-    ensures { λ r. ⌜ r ≡ writeAt (now (j .entry)) at ⌝ }
+    ensures { λ r. ⌜ r ≡ opened 1 3 (at + 1) (drop (at + 1) (now (j .entry))) ⌝ }
 {
     if j.len() - at < 7 {
         return Found::Stop(CUT_SHORT);
     }
     let now = four(j, at + 1);
     let len = two(j, at + 5) as usize;
-    let start = at + 7;
-    carry(j, Record::Write { now, start, len }, start, len)
+    carry(j, Record::Write { now, len }, at + 7, len)
 }
 
 // Kind 4. The credit stands between the length and the bytes.
 fn seed(j: &[u8], at: usize) -> Found
     requires { ⌜ at < length (now j) ⌝ }
-    ensures { λ r. ⌜ r ≡ seedAt (now (j .entry)) at ⌝ }
+    ensures { λ r. ⌜ r ≡ opened 1 4 (at + 1) (drop (at + 1) (now (j .entry))) ⌝ }
 {
     if j.len() - at < 11 {
         return Found::Stop(CUT_SHORT);
@@ -154,24 +155,13 @@ fn seed(j: &[u8], at: usize) -> Found
     let now = four(j, at + 1);
     let len = two(j, at + 5) as usize;
     let credit = four(j, at + 7);
-    let start = at + 11;
-    carry(
-        j,
-        Record::Seed {
-            now,
-            credit,
-            start,
-            len,
-        },
-        start,
-        len,
-    )
+    carry(j, Record::Seed { now, len, credit }, at + 11, len)
 }
 
 // Kind 5. Its length may be any: what is too long to read is an answer of the keeper, and ends nothing.
 fn generator_read(j: &[u8], at: usize) -> Found
     requires { ⌜ at < length (now j) ⌝ }
-    ensures { λ r. ⌜ r ≡ generatorReadAt (now (j .entry)) at ⌝ }
+    ensures { λ r. ⌜ r ≡ opened 1 5 (at + 1) (drop (at + 1) (now (j .entry))) ⌝ }
 {
     if j.len() - at < 7 {
         return Found::Stop(CUT_SHORT);
@@ -184,7 +174,7 @@ fn generator_read(j: &[u8], at: usize) -> Found
 // Kind 6, of any length too.
 fn blocking_read(j: &[u8], at: usize) -> Found
     requires { ⌜ at < length (now j) ⌝ }
-    ensures { λ r. ⌜ r ≡ blockingReadAt (now (j .entry)) at ⌝ }
+    ensures { λ r. ⌜ r ≡ opened 1 6 (at + 1) (drop (at + 1) (now (j .entry))) ⌝ }
 {
     if j.len() - at < 7 {
         return Found::Stop(CUT_SHORT);

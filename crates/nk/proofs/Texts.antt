@@ -5,12 +5,15 @@ use mathlib.Core.List.{List, [], _∷_, _++_, flatten, append-assoc, append-nil}
 use Prim.Native.Nat.{ℕ, zero, suc, _+_, _-_, _≤_, _<_}
 use native.Mathlib.Nat.{add-zero}
 use native.Mathlib.Omega.{arith}
-use borrow.Author.Tests.{eqb-true, eqb-false, eq-eqb, ne-eqb, leb-true, leb-false, le-leb}
+use borrow.Author.Tests.{eqb-true, eqb-false, ne-eqb, leb-true, leb-false, le-leb}
 use lib.Dec.{eqb, leb}
 use lib.ListN.{length, take, drop, getD, length-append, length-drop}
 use lib.Seq.{take-append-seam, getD-drop, drop-drop}
 use Rattle.ledger.specs.Choice.{pick}
-use Rattle.journal.specs.Header.{headerOf, startOf}
+use Rattle.ledger.specs.Sizes.{startBytes}
+use Rattle.journal.specs.Header.{recordsBegin, headerOf, startOf}
+use Rattle.journal.specs.declared.heading.Heading.{Heading}
+use Rattle.journal.proofs.GoodHeader.{heading-good}
 use Rattle.journal.proofs.Laws.{start-48}
 use Rattle.transcript.specs.Lines.{Written, endOf, endIn, atStart}
 use Rattle.keeper.specs.Record.{Outcome, fresh}
@@ -19,7 +22,7 @@ use Rattle.keeper.specs.declared.Answer.{Answer}
 use Rattle.keeper.proofs.Refusals.{making-48}
 use Rattle.steps.specs.Promise.{Left, left, leavesMade}
 use Rattle.replay.specs.Turns.{turnOf}
-use Rattle.replay.specs.Whole.{ifMore, transcriptOf}
+use Rattle.replay.specs.Whole.{transcriptOf}
 use Rattle.replay.proofs.Transcribed.{untranscribed}
 use Rattle.nk.specs.declared.batches.Batch.{Batch}
 use Rattle.nk.specs.Batches.{Lines, turnsBehind, batchOf, batchesFrom, textsOf, Laid, Next}
@@ -28,12 +31,12 @@ use Rattle.nk.proofs.Filling.{over, last-turn, full-turn, further-turn}
 
 -- ---- one batch: behind its lines, what is still to be written completes what was; and where there is more, it moves on within the journal
 record Behind (j : List ℕ) (at : ℕ) (k : Keeper) (text : List ℕ) (l : Lines) : Type 0 where
-  all : l .text ++ ifMore (l .more) (rest j (l .at) (l .keeper)) ≡ text ++ rest j at k
+  all : l .text ++ pick (l .more) (rest j (l .at) (l .keeper)) [] ≡ text ++ rest j at k
   onward : l .more ≡ true → (at < l .at) × (l .at ≤ length j)
 
 -- a turn's line behind a text, and then the rest
 line-behind : (j : List ℕ) (at : ℕ) (k : Keeper) (text : List ℕ)
-    → (text ++ (turnOf j at k) .line) ++ ifMore ((turnOf j at k) .more) (rest j ((turnOf j at k) .at) ((turnOf j at k) .keeper)) ≡ text ++ rest j at k
+    → (text ++ (turnOf j at k) .line) ++ pick ((turnOf j at k) .more) (rest j ((turnOf j at k) .at) ((turnOf j at k) .keeper)) [] ≡ text ++ rest j at k
 line-behind j at k text = append-assoc text _ _ ∙ ap (λ (l : List ℕ). text ++ l) (sym (next-line j at k))
 
 behind-over : (j : List ℕ) (at : ℕ) (k : Keeper) (text : List ℕ) → Behind j at k text (over j at k text)
@@ -51,6 +54,7 @@ a-turn n j at k text on = by ((turnOf j at k) .more) (leb (length (text ++ (turn
     by true true e g = rw (further-turn n j at k text e (leb-true _ 57277 g)) (on e)
 
 behind : (n : ℕ) (j : List ℕ) (at : ℕ) (k : Keeper) (text : List ℕ) → length j < at + n → Behind j at k text (turnsBehind (suc n) j at k text)
+unfolding pick
 behind zero j at k text h = a-turn zero j at k text (λ e. absurd (let a = ahead j at k e in omega (arith, h, a .0, a .1)))
 behind (suc n) j at k text h =
     a-turn (suc n) j at k text
@@ -64,8 +68,8 @@ unfolding batchOf
 batch j at k = behind (suc (length j)) j at k [] (omega arith)
 
 -- ---- all batches
-when-all : (b : Bool) (x : List (List ℕ)) (y : List ℕ) → (b ≡ true → flatten x ≡ y) → flatten (ifMore b x) ≡ ifMore b y
-unfolding flatten
+when-all : (b : Bool) (x : List (List ℕ)) (y : List ℕ) → (b ≡ true → flatten x ≡ y) → flatten (pick b x []) ≡ pick b y []
+unfolding flatten pick
 when-all true x y h = h refl
 when-all false x y h = refl
 
@@ -79,25 +83,26 @@ from-on (suc n) j at k h =
     ap (λ (l : List ℕ). (batchOf j at k) .text ++ l) (when-all ((batchOf j at k) .more) _ _ (λ e. let o = b .onward e in from-on n j _ _ (omega (arith, h, o .0)))) ∙ b .all
 
 -- a good header, and another
-good : (j : List ℕ) → headerOf j ≡ 0 → textsOf j ≡ batchesFrom (suc (length j)) j 53 (fresh (startOf j))
+good : (j : List ℕ) → headerOf j .number ≡ 0 → textsOf j ≡ batchesFrom (suc (length j)) j recordsBegin (fresh (startOf j))
 unfolding textsOf pick
-good j h = rw (eq-eqb (headerOf j) 0 h)
+good j h = rw (heading-good j h) refl
 
-bad : (j : List ℕ) → (headerOf j ≡ 0 → ⊥) → textsOf j ≡ endOf (headerOf j) ∷ []
+bad : (j : List ℕ) → (headerOf j .number ≡ 0 → ⊥) → textsOf j ≡ endOf (headerOf j .number) ∷ []
 unfolding textsOf pick
-bad j h = rw (ne-eqb (headerOf j) 0 h)
+bad j h = rw (ne-eqb (headerOf j .number) 0 h)
 
 -- THE TEXTS, one behind another, are the transcript
 pub transcript-in-texts : (j : List ℕ) → flatten (textsOf j) ≡ transcriptOf j
 unfolding flatten
-transcript-in-texts j = by (eqb (headerOf j) 0) refl
+transcript-in-texts j = by (eqb (headerOf j .number) 0) refl
   where
-    by : (b : Bool) → eqb (headerOf j) 0 ≡ b → flatten (textsOf j) ≡ transcriptOf j
-    by true e = let h = eqb-true (headerOf j) 0 e in ap flatten (good j h) ∙ from-on (length j) j 53 (fresh (startOf j)) (omega arith) ∙ whole j h
-    by false e = let h = eqb-false (headerOf j) 0 e in ap flatten (bad j h) ∙ append-nil _ ∙ sym (untranscribed j h)
+    by : (b : Bool) → eqb (headerOf j .number) 0 ≡ b → flatten (textsOf j) ≡ transcriptOf j
+    by true e = let h = eqb-true (headerOf j .number) 0 e in ap flatten (good j h) ∙ from-on (length j) j recordsBegin (fresh (startOf j)) (omega arith) ∙ whole j h
+    by false e = let h = eqb-false (headerOf j .number) 0 e in ap flatten (bad j h) ∙ append-nil _ ∙ sym (untranscribed j h)
 
 -- ---- there are no more texts than bytes
-fewer : (b : Bool) (x : List (List ℕ)) (m : ℕ) → (b ≡ true → length x ≤ m) → length (ifMore b x) ≤ m
+fewer : (b : Bool) (x : List (List ℕ)) (m : ℕ) → (b ≡ true → length x ≤ m) → length (pick b x []) ≤ m
+unfolding pick
 fewer true x m h = h refl
 fewer false x m h = omega arith
 
@@ -109,12 +114,12 @@ few-from (suc n) j at k =
     (λ e. let o = (batch j at k) .onward e in omega (arith, o .0, o .1, few-from n j ((batchOf j at k) .at) ((batchOf j at k) .keeper))) in
     omega (arith, f)
 
-pub few-texts : (j : List ℕ) → length (textsOf j) ≤ 1 + (length j - 53)
-few-texts j = by (eqb (headerOf j) 0) refl
+pub few-texts : (j : List ℕ) → length (textsOf j) ≤ 1 + (length j - recordsBegin)
+few-texts j = by (eqb (headerOf j .number) 0) refl
   where
-    by : (b : Bool) → eqb (headerOf j) 0 ≡ b → length (textsOf j) ≤ 1 + (length j - 53)
-    by true e = rw (good j (eqb-true (headerOf j) 0 e)) (few-from (suc (length j)) j 53 (fresh (startOf j)))
-    by false e = omega (arith, ap length (bad j (eqb-false (headerOf j) 0 e)))
+    by : (b : Bool) → eqb (headerOf j .number) 0 ≡ b → length (textsOf j) ≤ 1 + (length j - recordsBegin)
+    by true e = rw (good j (eqb-true (headerOf j .number) 0 e)) (few-from (suc (length j)) j recordsBegin (fresh (startOf j)))
+    by false e = omega (arith, ap length (bad j (eqb-false (headerOf j .number) 0 e)))
 
 -- ---- the next text
 -- the texts from one on
@@ -131,22 +136,23 @@ pub record Told (j : List ℕ) (done at : ℕ) (k : Keeper) : Type 0 where
   pub enough : length j < at + turns
   pub left : drop done (textsOf j) ≡ batchesFrom (suc turns) j at k
 
-pub told-none : (j : List ℕ) (k k′ : Keeper) (a : Answer) (start : List ℕ) (done n : ℕ) → done ≡ 0 → n ≡ headerOf j → n ≡ 0 → start ≡ take 48 (drop 5 j)
-    → left k′ a [] ≡ leavesMade k start → Told j done 53 k′
+pub told-none : (j : List ℕ) (k k′ : Keeper) (a : Answer) (start : List ℕ) (done : ℕ) (h : Heading) → done ≡ 0 → h ≡ headerOf j → h .number ≡ 0
+    → start ≡ take startBytes (drop (h .place - startBytes) j) → left k′ a [] ≡ leavesMade k start → Told j done (h .place) k′
 unfolding leavesMade startOf
-told-none j k k′ a start done n d e z es l =
-    let h : headerOf j ≡ 0 = sym e ∙ z in
-    let long : length start ≡ 48 = ap length es ∙ start-48 j h in
-    let made : k′ ≡ fresh start = ap (λ (x : Left). x .keeper) l ∙ ap (λ (o : Outcome). o .keeper) (making-48 start k long) in
+told-none j k k′ a start done h d e z es l =
+    let g : headerOf j .number ≡ 0 = sym (ap (λ (x : Heading). x .number) e) ∙ z in
+    let p : h .place ≡ recordsBegin = ap (λ (x : Heading). x .place) (e ∙ heading-good j g) in
+    let s : start ≡ startOf j = rw p at es in
+    let made : k′ ≡ fresh start = ap (λ (x : Left). x .keeper) l ∙ ap (λ (o : Outcome). o .keeper) (making-48 start k (ap length s ∙ start-48 j g)) in
     record {
       turns = length j;
       enough = omega arith;
-      left = ap (λ (m : ℕ). drop m (textsOf j)) d ∙ good j h ∙ ap (batchesFrom (suc (length j)) j 53) (sym (made ∙ ap fresh es));
+      left = ap (λ (m : ℕ). drop m (textsOf j)) d ∙ good j g ∙ (λ i. batchesFrom (suc (length j)) j (sym p i) (sym (made ∙ ap fresh s) i));
     }
 
 module _ (j : List ℕ) (done at : ℕ) (k : Keeper) (t : Told j done at k) (k′ : Keeper) (b : Batch) (room room′ : List ℕ) (laid : Laid (batchOf j at k) k′ b room room′) where
   -- this batch's text and those behind it
-  these : drop done (textsOf j) ≡ (batchOf j at k) .text ∷ ifMore ((batchOf j at k) .more) (batchesFrom (t .turns) j ((batchOf j at k) .at) ((batchOf j at k) .keeper))
+  these : drop done (textsOf j) ≡ (batchOf j at k) .text ∷ pick ((batchOf j at k) .more) (batchesFrom (t .turns) j ((batchOf j at k) .at) ((batchOf j at k) .keeper)) []
   unfolding batchesFrom
   these = t .left
 
@@ -165,7 +171,7 @@ module _ (j : List ℕ) (done at : ℕ) (k : Keeper) (t : Told j done at k) (k�
   goes-on e = let o = (batch j at k) .onward (sym (laid .more) ∙ e) in let p = laid .at in (omega (arith, o .0), omega (arith, o .1))
 
   pub told-more : b .more ≡ true → Told j (done + 1) (b .at) k′
-  unfolding batchesFrom
+  unfolding batchesFrom pick
   told-more e = by (t .turns) (t .enough) (t .left)
     where
       by : (n : ℕ) → length j < at + n → drop done (textsOf j) ≡ batchesFrom (suc n) j at k → Told j (done + 1) (b .at) k′
@@ -173,7 +179,7 @@ module _ (j : List ℕ) (done at : ℕ) (k : Keeper) (t : Told j done at k) (k�
       by (suc n) p q =
           let o = goes-on e in
           let m : (batchOf j at k) .more ≡ true = sym (laid .more) ∙ e in
-          let tail : drop (done + 1) (textsOf j) ≡ ifMore ((batchOf j at k) .more) (batchesFrom (suc n) j ((batchOf j at k) .at) ((batchOf j at k) .keeper)) =
+          let tail : drop (done + 1) (textsOf j) ≡ pick ((batchOf j at k) .more) (batchesFrom (suc n) j ((batchOf j at k) .at) ((batchOf j at k) .keeper)) [] =
           sym (drop-drop 1 done (textsOf j)) ∙ ap (drop 1) q in
           record {
             turns = n;
@@ -183,6 +189,7 @@ module _ (j : List ℕ) (done at : ℕ) (k : Keeper) (t : Told j done at k) (k�
 
   -- where there is no more, this was the last
   pub told-all : b .more ≡ false → done + 1 ≡ length (textsOf j)
+  unfolding pick
   told-all e =
       let m : (batchOf j at k) .more ≡ false = sym (laid .more) ∙ e in
       let one : drop done (textsOf j) ≡ (batchOf j at k) .text ∷ [] = rw m at these in
@@ -196,7 +203,7 @@ end-of-room room b n number h e =
     let w : _≡_ {A = Written} (record { count = n; room = b }) (atStart room (endOf number)) = rw (le-leb 15 (length room) h) at e in
     ap (λ (x : Written). take (x .count) (x .room)) w ∙ take-append-seam (endOf number) _
 
-module _ (j : List ℕ) (done number : ℕ) (d : done ≡ 0) (e : number ≡ headerOf j) (h : number ≡ 0 → ⊥) where
+module _ (j : List ℕ) (done number : ℕ) (d : done ≡ 0) (e : number ≡ headerOf j .number) (h : number ≡ 0 → ⊥) where
   one-text : drop done (textsOf j) ≡ endOf number ∷ []
   one-text = ap (λ (m : ℕ). drop m (textsOf j)) d ∙ bad j (λ z. h (e ∙ z)) ∙ ap (λ (m : ℕ). endOf m ∷ []) (sym e)
 

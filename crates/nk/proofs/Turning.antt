@@ -2,29 +2,32 @@
 -- on.
 use mathlib.Core.Path.{_≡_, refl, sym, ap, _∙_}
 use mathlib.Core.Bool.{Bool, true, false, false≢true}
-use mathlib.Core.List.{List, _++_}
+use mathlib.Core.List.{List, [], _++_}
 use Prim.Native.Nat.{ℕ, zero, suc, _+_, _*_, _≤_, _<_}
 use native.Mathlib.Omega.{arith}
 use lib.ListN.{length}
-use Rattle.journal.specs.Records.{readAt}
-use Rattle.journal.specs.Header.{headerOf, startOf}
+use Rattle.ledger.specs.Choice.{pick}
+use Rattle.ledger.specs.Sizes.{longest}
+use Rattle.journal.specs.Reading.{readAt}
+use Rattle.journal.specs.Header.{recordsBegin, headerOf, startOf}
+use Rattle.journal.specs.Walking.{entry}
 use Rattle.journal.specs.declared.records.Found.{Found}
 use Rattle.journal.specs.declared.records.Found.the-variants.{One, Stop, End}
-use Rattle.journal.proofs.Laws.{read-ahead}
-use Rattle.transcript.proofs.Laws.{longest, longest-end}
+use Rattle.journal.proofs.Onward.{read-ahead}
+use Rattle.transcript.proofs.Laws.{longest as longest-line, longest-end}
 use Rattle.ledger.specs.Marks.{inputCount, blockingCount}
 use Rattle.keeper.specs.Narrative.{told}
 use Rattle.keeper.specs.Record.{fresh}
 use Rattle.keeper.specs.declared.Keeper.{Keeper}
 use Rattle.replay.specs.Running.{callOf, lineFor}
 use Rattle.replay.specs.Turns.{after, turnOf}
-use Rattle.replay.specs.Whole.{ifMore, turnsWrite, transcriptOf}
+use Rattle.replay.specs.Whole.{turnsWrite, transcriptOf}
 use Rattle.replay.proofs.Handing.{few}
 use Rattle.replay.proofs.Transcribed.{transcribed}
 
 -- ---- one turn
 -- the longest line is one with 4,096 bytes
-most : (n b : ℕ) → n ≤ 67 + 2 * b → b ≤ 4096 → n ≤ 8259
+most : (n b : ℕ) → n ≤ 67 + 2 * b → b ≤ longest → n ≤ 8259
 most n b h k = omega (arith, h, k)
 
 last : (n : ℕ) → n ≤ 15 → n ≤ 8259
@@ -33,33 +36,34 @@ last n h = omega (arith, h)
 short-after : (j : List ℕ) (at : ℕ) (k : Keeper) (f : Found) → length ((after j at k f) .line) ≤ 8259
 unfolding after lineFor
 short-after j at k (One r next) =
-    let o = told k (callOf j r) in
-    most _ (length (o .bytes)) (longest (o .answer) (inputCount (o .keeper .ledger)) (blockingCount (o .keeper .ledger)) (o .bytes)) (few k (callOf j r))
+    let o = told k (callOf j (entry at r next)) in
+    most _ (length (o .bytes)) (longest-line (o .answer) (inputCount (o .keeper .ledger)) (blockingCount (o .keeper .ledger)) (o .bytes)) (few k (callOf j (entry at r next)))
 short-after j at k (Stop n) = last _ (longest-end n)
 short-after j at k End = last _ (longest-end 0)
 
 pub short : (j : List ℕ) (at : ℕ) (k : Keeper) → length ((turnOf j at k) .line) ≤ 8259
 unfolding turnOf
-short j at k = short-after j at k (readAt j at)
+short j at k = short-after j at k (readAt 1 j at)
 
 -- a record that was run lies ahead, within the journal
-ahead-after : (j : List ℕ) (at : ℕ) (k : Keeper) (f : Found) → readAt j at ≡ f → (after j at k f) .more ≡ true
+ahead-after : (j : List ℕ) (at : ℕ) (k : Keeper) (f : Found) → readAt 1 j at ≡ f → (after j at k f) .more ≡ true
     → (at < (after j at k f) .at) × ((after j at k f) .at ≤ length j)
 unfolding after
-ahead-after j at k (One r next) h e = read-ahead j at r next h
+ahead-after j at k (One r next) h e = read-ahead 1 j at r next h
 ahead-after j at k (Stop n) h e = absurd (false≢true e)
 ahead-after j at k End h e = absurd (false≢true e)
 
 pub ahead : (j : List ℕ) (at : ℕ) (k : Keeper) → (turnOf j at k) .more ≡ true → (at < (turnOf j at k) .at) × ((turnOf j at k) .at ≤ length j)
 unfolding turnOf
-ahead j at k e = ahead-after j at k (readAt j at) refl e
+ahead j at k e = ahead-after j at k (readAt 1 j at) refl e
 
 -- ---- all turns from a position on
 -- what they write, on a keeper as it is there. No journal has more turns than bytes, but for the last
 unfoldable pub rest : List ℕ → ℕ → Keeper → List ℕ
 rest j at k = turnsWrite (suc (suc (length j))) j at k
 
-when : (b : Bool) (x y : List ℕ) → (b ≡ true → x ≡ y) → ifMore b x ≡ ifMore b y
+when : (b : Bool) (x y : List ℕ) → (b ≡ true → x ≡ y) → pick b x [] ≡ pick b y []
+unfolding pick
 when true x y h = h refl
 when false x y h = refl
 
@@ -70,12 +74,12 @@ grow zero j at k h = ap (λ (l : List ℕ). (turnOf j at k) .line ++ l) (when _ 
 grow (suc f) j at k h = ap (λ (l : List ℕ). (turnOf j at k) .line ++ l) (when _ _ _ (λ e. let g = ahead j at k e in grow f j _ _ (omega (arith, g .0, h))))
 
 -- the next turn's line, and then the rest
-pub next-line : (j : List ℕ) (at : ℕ) (k : Keeper) → rest j at k ≡ (turnOf j at k) .line ++ ifMore ((turnOf j at k) .more) (rest j ((turnOf j at k) .at) ((turnOf j at k) .keeper))
+pub next-line : (j : List ℕ) (at : ℕ) (k : Keeper) → rest j at k ≡ (turnOf j at k) .line ++ pick ((turnOf j at k) .more) (rest j ((turnOf j at k) .at) ((turnOf j at k) .keeper)) []
 unfolding rest turnsWrite
 next-line j at k =
     ap (λ (l : List ℕ). (turnOf j at k) .line ++ l) (when _ _ _ (λ e. let g = ahead j at k e in grow (length j) j _ _ (omega (arith, g .0))))
 
 -- behind a good header the rest is the transcript
-pub whole : (j : List ℕ) → headerOf j ≡ 0 → rest j 53 (fresh (startOf j)) ≡ transcriptOf j
+pub whole : (j : List ℕ) → headerOf j .number ≡ 0 → rest j recordsBegin (fresh (startOf j)) ≡ transcriptOf j
 unfolding rest
-whole j h = sym (grow (length j) j 53 (fresh (startOf j)) (omega arith)) ∙ transcribed j h
+whole j h = sym (grow (length j) j recordsBegin (fresh (startOf j)) (omega arith)) ∙ transcribed j h

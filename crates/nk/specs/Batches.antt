@@ -2,7 +2,7 @@
 use mathlib.Core.Bool.{Bool, false}
 use mathlib.Core.Path.{_≡_}
 use mathlib.Core.List.{List, [], _∷_, _++_}
-use Prim.Native.Nat.{ℕ, zero, suc, _+_, _<_}
+use Prim.Native.Nat.{ℕ, zero, suc, _<_}
 use lib.Dec.{leb, eqb}
 use lib.ListN.{length, drop, getD}
 use Rattle.ledger.specs.Choice.{pick}
@@ -11,7 +11,6 @@ use Rattle.transcript.specs.Lines.{endOf}
 use Rattle.keeper.specs.Record.{fresh}
 use Rattle.keeper.specs.declared.Keeper.{Keeper}
 use Rattle.replay.specs.Turns.{turnOf}
-use Rattle.replay.specs.Whole.{ifMore}
 use Rattle.nk.specs.declared.batches.Batch.{Batch}
 
 -- what a batch is: its lines, and the keeper, the position and whether there is more behind them
@@ -40,12 +39,13 @@ batchOf j at k = turnsBehind (suc (suc (length j))) j at k []
 unfoldable pub batchesFrom : ℕ → List ℕ → ℕ → Keeper → List (List ℕ)
 batchesFrom zero j at k = []
 batchesFrom (suc n) j at k =
-    let b = batchOf j at k in b .text ∷ ifMore (b .more) (batchesFrom n j (b .at) (b .keeper))
+    let b = batchOf j at k in b .text ∷ pick (b .more) (batchesFrom n j (b .at) (b .keeper)) []
 
 -- THE TEXTS of a journal, in the order in which they are written. proofs/Texts.antt shows that one behind another they are its transcript
 unfoldable pub textsOf : List ℕ → List (List ℕ)
 textsOf j =
-    pick (eqb (headerOf j) 0) (batchesFrom (suc (length j)) j 53 (fresh (startOf j))) (endOf (headerOf j) ∷ [])
+    let h = headerOf j in
+    pick (eqb (h .number) 0) (batchesFrom (suc (length j)) j (h .place) (fresh (startOf j))) (endOf (h .number) ∷ [])
 
 -- what the code hands back of a batch, and what then stands in the room: the text, and behind it what stood there before
 pub record Laid (b : Lines) (k : Keeper) (r : Batch) (room room′ : List ℕ) : Type 0 where

@@ -3,6 +3,7 @@ ghost use Rattle.steps.specs.Promise.{keeperOf};
 ghost use Rattle.nk.specs.Batches.{batchOf, Laid};
 use crate::output::lay;
 use ledger::Ledger;
+use replay::OUT_ROOM;
 use replay::take_turn;
 use transcript::LONGEST_LINE;
 
@@ -36,7 +37,7 @@ pub fn fill_room(
 ) -> Batch
     ensures { λ r. ⌜ Laid (batchOf (now (j .entry)) at (keeperOf l (now (clocks .entry)) (now (firsts .entry)) (now (seconds .entry)) (now (input .entry)) (now (blocking .entry)) (now (fast .entry)) (now (generator .entry)))) (keeperOf (r .ledger) (now (clocks .exit)) (now (firsts .exit)) (now (seconds .exit)) (now (input .exit)) (now (blocking .exit)) (now (fast .exit)) (now (generator .exit))) r (now (room .entry)) (now (room .exit)) ⌝ }
 {
-    let mut out = [0u8; 4097];
+    let mut out = [0u8; OUT_ROOM];
     let mut line = [0u8; LONGEST_LINE];
     let mut ledger = l;
     let mut place = at;

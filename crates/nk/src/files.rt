@@ -2,9 +2,10 @@
 ghost use Prim.Native.Nat.{_≤_};
 ghost use lib.ListN.{length};
 ghost use Rattle.io.specs.Counts.{Counts};
+use journal::LARGEST;
 
 // One byte more than the longest journal: a file that fills it is too large, and what else it has does not matter.
-pub const MOST: usize = 61441;
+pub const MOST: usize = LARGEST + 1;
 
 // How many bytes were read, and whether no read failed.
 pub struct Filled {

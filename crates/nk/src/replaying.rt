@@ -12,6 +12,7 @@ use journal::header;
 use journal::payload;
 use ledger::Ledger;
 use ledger::Spot;
+use ledger::sizes::START_BYTES;
 use steps::make_on;
 use transcript::ending;
 
@@ -45,7 +46,7 @@ fn hand_over(j: &[u8], done: &mut usize, text: &[u8]) -> Sent
 // The transcript of a journal that has no records to run: one text, which has the header's number.
 fn refuse(j: &[u8], done: &mut usize, number: u32) -> Sent
     requires { ⌜ now done ≡ 0 ⌝ }
-    requires { ⌜ (number ≡ headerOf (now j)) × (number ≡ 0 → ⊥) ⌝ }
+    requires { ⌜ (number ≡ (headerOf (now j)) .number) × (number ≡ 0 → ⊥) ⌝ }
     ensures { λ r. ⌜ now (done .exit) ≡ length (textsOf (now (j .entry))) ⌝ }
 {
     let mut line = [0u8; 15];
@@ -59,9 +60,9 @@ fn hand_over_all(j: &[u8], done: &mut usize) -> Sent
     requires { ⌜ now done ≡ 0 ⌝ }
     ensures { λ r. ⌜ (r ≡ Sent.All → now (done .exit) ≡ length (textsOf (now (j .entry)))) ⌝ }
 {
-    let refused = header(j);
-    if refused != 0 {
-        return refuse(j, done, refused);
+    let h = header(j);
+    if h.number != 0 {
+        return refuse(j, done, h.number);
     }
     let mut clocks = [0u32; 16];
     let mut firsts = [0i64; 16];
@@ -79,10 +80,10 @@ fn hand_over_all(j: &[u8], done: &mut usize) -> Sent
         &mut blocking,
         &mut fast,
         &mut generator,
-        payload(j, 5, 48),
+        payload(j, h.place, START_BYTES),
     );
     let mut l = made.ledger;
-    let mut at: usize = 53;
+    let mut at = h.place;
     let mut room = [0u8; ROOM];
     loop {
         let b = fill_room(

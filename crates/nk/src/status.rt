@@ -1,6 +1,6 @@
 // What a run of the program comes to, as one number: the exit status that the launcher gives.
 ghost use mathlib.Core.Path.{_≡_};
-ghost use Rattle.journal.specs.Ending.{endingOf};
+ghost use Rattle.journal.specs.Walking.{endingOf};
 ghost use Prim.Native.Nat.{max};
 ghost use Rattle.nk.specs.Status.{statusOf};
 use journal::scan;

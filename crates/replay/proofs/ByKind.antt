@@ -1,34 +1,39 @@
--- A record of a kind is that kind's call.
-use mathlib.Core.Path.{_≡_, refl, sym, ap, _∙_}
+-- A record of a kind is that kind's call, with the bytes that were handed over.
+use mathlib.Core.Path.{_≡_}
 use mathlib.Core.List.{List}
-use Prim.Native.Nat.{ℕ}
+use Prim.Native.Nat.{ℕ, _-_}
 use lib.ListN.{take, drop}
+use Rattle.journal.specs.Layout.{carries}
+use Rattle.journal.specs.Writing.{carriedBy}
 use Rattle.journal.specs.declared.records.Record.{Record}
 use Rattle.journal.specs.declared.records.Record.the-variants.{Event, Interrupt, Write, Seed, Read, BlockingRead}
 use Rattle.keeper.specs.Calls.{Call, deviceEvent, interrupted, written, seededWith, generatorRead, blockingReadOf}
-use Rattle.replay.specs.Running.{callOf}
+use Rattle.replay.specs.Running.{callWith}
 
-module _ (j : List ℕ) (r : Record) where
-  pub call-event : (now device stamp value : ℕ) → r ≡ Event now device stamp value → callOf j r ≡ deviceEvent device now stamp value
-  unfolding callOf
+module _ (j : List ℕ) (r : Record) (next : ℕ) where
+  abbrev Called : Call → Type 0
+  Called c = callWith (carriedBy j r next) r ≡ c
+
+  pub call-event : (now device stamp value : ℕ) → r ≡ Event now device stamp value → Called (deviceEvent device now stamp value)
+  unfolding callWith
   call-event now device stamp value e = rw e
 
-  pub call-interrupt : (now number stamp address : ℕ) → r ≡ Interrupt now number stamp address → callOf j r ≡ interrupted now number stamp address
-  unfolding callOf
+  pub call-interrupt : (now number stamp address : ℕ) → r ≡ Interrupt now number stamp address → Called (interrupted now number stamp address)
+  unfolding callWith
   call-interrupt now number stamp address e = rw e
 
-  pub call-write : (now start len : ℕ) (p : List ℕ) → r ≡ Write now start len → p ≡ take len (drop start j) → callOf j r ≡ written p
-  unfolding callOf
-  call-write now start len p e q = rw (e, q)
+  pub call-write : (now len : ℕ) (p : List ℕ) → r ≡ Write now len → p ≡ take len (drop (next - len) j) → Called (written p)
+  unfolding callWith carriedBy carries
+  call-write now len p e q = rw (e, q)
 
-  pub call-seed : (now credit start len : ℕ) (p : List ℕ) → r ≡ Seed now credit start len → p ≡ take len (drop start j) → callOf j r ≡ seededWith now p credit
-  unfolding callOf
-  call-seed now credit start len p e q = rw (e, q)
+  pub call-seed : (now len credit : ℕ) (p : List ℕ) → r ≡ Seed now len credit → p ≡ take len (drop (next - len) j) → Called (seededWith now p credit)
+  unfolding callWith carriedBy carries
+  call-seed now len credit p e q = rw (e, q)
 
-  pub call-read : (now len : ℕ) → r ≡ Read now len → callOf j r ≡ generatorRead now len
-  unfolding callOf
+  pub call-read : (now len : ℕ) → r ≡ Read now len → Called (generatorRead now len)
+  unfolding callWith
   call-read now len e = rw e
 
-  pub call-blocking : (now len : ℕ) → r ≡ BlockingRead now len → callOf j r ≡ blockingReadOf len
-  unfolding callOf
+  pub call-blocking : (now len : ℕ) → r ≡ BlockingRead now len → Called (blockingReadOf len)
+  unfolding callWith
   call-blocking now len e = rw e

@@ -1,6 +1,6 @@
 -- A journal that is cut anywhere: what its earlier records did stays, and nothing else is done. Its replay makes the calls of those records of
 -- the whole that end within the cut, writes their lines and leaves the keeper that they leave.
-use mathlib.Core.Path.{_≡_, refl, sym, ap, ap₂, _∙_}
+use mathlib.Core.Path.{_≡_, refl, ap, ap₂, _∙_}
 use mathlib.Core.Bool.{Bool, true, false}
 use mathlib.Core.List.{List, [], _∷_, _++_, map}
 use Prim.Native.Nat.{ℕ, zero, suc, min}
@@ -8,76 +8,62 @@ use borrow.Author.Tests.{eqb-true, eqb-false, eq-eqb, ne-eqb}
 use lib.Dec.{eqb}
 use lib.ListN.{length, take}
 use Rattle.ledger.specs.Choice.{pick}
-use Rattle.journal.specs.Records.{readAt}
-use Rattle.journal.specs.Header.{headerOf, startOf}
-use Rattle.journal.specs.Ending.{recordsOf}
-use Rattle.journal.specs.Walking.{Walk, walk, walkOf, recordsIn}
+use Rattle.journal.specs.Header.{recordsBegin, headerOf, startOf}
+use Rattle.journal.specs.Walking.{Entry, Walk, walk, walkOf}
 use Rattle.journal.specs.Cutting.{upTo}
-use Rattle.journal.specs.declared.records.Record.{Record}
-use Rattle.journal.specs.declared.records.Record.the-variants.{Event, Interrupt, Write, Seed, Read, BlockingRead}
-use Rattle.journal.specs.declared.records.Found.the-variants.{One}
-use Rattle.journal.proofs.Laws.{write-cut, seed-cut, start-cut}
+use Rattle.journal.proofs.Laws.{carried-cut, start-cut}
 use Rattle.journal.proofs.GoodHeader.{header-cut, header-kept}
-use Rattle.journal.proofs.Walks.{along, walk-one, walk-stop, walk-end, good-walk, bad-walk, ending-walked, records-walked}
+use Rattle.journal.proofs.Walks.{along, walk-one, walk-stop, walk-end, good-walk, bad-walk}
 use Rattle.journal.proofs.CutWalks.{stops-ahead}
-use Rattle.journal.proofs.CutJournals.{map-take, cut-records, cut-ending, cut-first, salvaged-walk}
+use Rattle.journal.proofs.CutJournals.{cut-entries, cut-ending, cut-first, salvaged-walk}
 use Rattle.transcript.specs.Lines.{endOf}
 use Rattle.keeper.specs.Record.{Outcome, fresh}
 use Rattle.keeper.specs.Calls.{Call}
 use Rattle.keeper.specs.Narrative.{told}
 use Rattle.keeper.specs.Demands.{outcomes, keeperAfter}
 use Rattle.keeper.specs.declared.Keeper.{Keeper}
-use Rattle.replay.specs.Running.{callOf}
+use Rattle.replay.specs.Running.{callWith, callOf}
 use Rattle.replay.specs.Whole.{callsOf, outcomesOf, linesOf, transcriptOf, replayed}
 use Rattle.replay.specs.Cutting.{callsWithin, outcomesWithin, transcriptWithin, replayedWithin, Saved}
 
--- ---- a record that is read of the cut journal is the same call
-same-call : (n : ℕ) (j : List ℕ) (at : ℕ) (r : Record) (next : ℕ) → readAt (take n j) at ≡ One r next → callOf (take n j) r ≡ callOf j r
-unfolding callOf
-same-call n j at (Event now device stamp value) next e = refl
-same-call n j at (Interrupt now number stamp address) next e = refl
-same-call n j at (Write now start len) next e = ap Call.written (write-cut n j at now start len next e)
-same-call n j at (Seed now credit start len) next e = ap (λ (bs : List ℕ). Call.seededWith now bs credit) (seed-cut n j at now credit start len next e)
-same-call n j at (Read now len) next e = refl
-same-call n j at (BlockingRead now len) next e = refl
-
-same-calls : (n : ℕ) (j : List ℕ) (at : ℕ) → map (callOf (take n j)) (recordsIn (walk (take n j) at)) ≡ map (callOf j) (recordsIn (walk (take n j) at))
+-- ---- records that are read of the cut journal are the same calls
+same-calls : (n : ℕ) (j : List ℕ) (at : ℕ) → map (callOf (take n j)) (walk 1 (take n j) at .entries) ≡ map (callOf j) (walk 1 (take n j) at .entries)
 same-calls n j =
-    along (take n j) (λ at. map (callOf (take n j)) (recordsIn (walk (take n j) at)) ≡ map (callOf j) (recordsIn (walk (take n j) at)))
-    (λ at r next e on. rw (walk-one (take n j) at r next e) (ap₂ (λ (c : Call) (cs : List Call). c ∷ cs) (same-call n j at r next e) on))
-    (λ at m e. rw (walk-stop (take n j) at m e) refl)
-    (λ at e. rw (walk-end (take n j) at e) refl)
+    along 1 (take n j) (λ at. map (callOf (take n j)) (walk 1 (take n j) at .entries) ≡ map (callOf j) (walk 1 (take n j) at .entries))
+    (λ at r next e on. rw (walk-one 1 (take n j) at r next e) (ap₂ (λ (bs : List ℕ) (cs : List Call). callWith bs r ∷ cs) (carried-cut 1 n j at r next e) on))
+    (λ at m e. rw (walk-stop 1 (take n j) at m e) refl)
+    (λ at e. rw (walk-end 1 (take n j) at e) refl)
 
 -- by the header: where it is not good there is no record
-if-good : (j : List ℕ) (P : Type 0) → (headerOf j ≡ 0 → P) → ((headerOf j ≡ 0 → ⊥) → recordsOf j ≡ [] → P) → P
-if-good j P good bad = by (eqb (headerOf j) 0) refl
+if-good : (j : List ℕ) (P : Type 0) → (headerOf j .number ≡ 0 → P) → ((headerOf j .number ≡ 0 → ⊥) → walkOf j .entries ≡ [] → P) → P
+if-good j P good bad = by (eqb (headerOf j .number) 0) refl
   where
-    by : (b : Bool) → eqb (headerOf j) 0 ≡ b → P
-    by true e = good (eqb-true (headerOf j) 0 e)
-    by false e = let h = eqb-false (headerOf j) 0 e in bad h (records-walked j ∙ ap recordsIn (bad-walk j h))
+    by : (b : Bool) → eqb (headerOf j .number) 0 ≡ b → P
+    by true e = good (eqb-true (headerOf j .number) 0 e)
+    by false e = let h = eqb-false (headerOf j .number) 0 e in bad h (ap (λ (w : Walk). w .entries) (bad-walk j h))
 
 module _ (n : ℕ) (j : List ℕ) where
   -- what is left is replayed as records of the whole journal
-  own-calls : callsOf (take n j) ≡ map (callOf j) (recordsOf (take n j))
+  own-calls : callsOf (take n j) ≡ map (callOf j) (walkOf (take n j) .entries)
   own-calls =
-      if-good (take n j) (callsOf (take n j) ≡ map (callOf j) (recordsOf (take n j)))
-      (λ h. rw (records-walked (take n j), good-walk (take n j) h) (same-calls n j 53))
+      if-good (take n j) (callsOf (take n j) ≡ map (callOf j) (walkOf (take n j) .entries))
+      (λ h. rw (good-walk (take n j) h) (same-calls n j recordsBegin))
       (λ h z. rw z refl)
 
-  own-outcomes : outcomesOf (take n j) ≡ outcomes (fresh (startOf j)) (map (callOf j) (recordsOf (take n j)))
+  own-outcomes : outcomesOf (take n j) ≡ outcomes (fresh (startOf j)) (map (callOf j) (walkOf (take n j) .entries))
   unfolding outcomes
   own-outcomes =
-      if-good (take n j) (outcomesOf (take n j) ≡ outcomes (fresh (startOf j)) (map (callOf j) (recordsOf (take n j))))
+      if-good (take n j) (outcomesOf (take n j) ≡ outcomes (fresh (startOf j)) (map (callOf j) (walkOf (take n j) .entries)))
       (λ h. ap₂ (λ (s : List ℕ) (cs : List Call). outcomes (fresh s) cs) (start-cut n j h) own-calls)
       (λ h z. rw z refl)
 
   -- THE CALLS
   pub cut-calls : callsOf (take n j) ≡ callsWithin (min n (length j)) j
-  cut-calls = own-calls ∙ ap (map (callOf j)) (cut-records n j)
+  cut-calls = own-calls ∙ ap (map (callOf j)) (cut-entries n j)
 
   -- THE OUTCOMES
   pub cut-outcomes : outcomesOf (take n j) ≡ outcomesWithin (min n (length j)) j
-  cut-outcomes = own-outcomes ∙ ap (λ (rs : List Record). outcomes (fresh (startOf j)) (map (callOf j) rs)) (cut-records n j)
+  cut-outcomes = own-outcomes ∙ ap (λ (es : List Entry). outcomes (fresh (startOf j)) (map (callOf j) es)) (cut-entries n j)
 
   -- THE TRANSCRIPT
   pub cut-transcript : transcriptOf (take n j) ≡ transcriptWithin (min n (length j)) j
@@ -89,9 +75,9 @@ module _ (n : ℕ) (j : List ℕ) where
   unfolding replayed replayedWithin pick
   cut-keeper k =
       if-good (take n j) (replayed (take n j) k ≡ replayedWithin (min n (length j)) j k)
-      (λ h. let z = eq-eqb (headerOf (take n j)) 0 h in
+      (λ h. let z = eq-eqb (headerOf (take n j) .number) 0 h in
       rw (← header-cut n j, z) (ap₂ (λ (s : List ℕ) (cs : List Call). keeperAfter (fresh s) cs) (start-cut n j h) cut-calls))
-      (λ h _. let z = ne-eqb (headerOf (take n j)) 0 h in rw (← header-cut n j, z) refl)
+      (λ h _. let z = ne-eqb (headerOf (take n j) .number) 0 h in rw (← header-cut n j, z) refl)
 
 -- ---- of a journal with a good header: the first outcomes, as many as records end within the cut
 first-outcomes : (k : Keeper) (m : ℕ) (cs : List Call) → outcomes k (take m cs) ≡ take m (outcomes k cs)
@@ -100,40 +86,46 @@ first-outcomes k zero cs = refl
 first-outcomes k (suc m) [] = refl
 first-outcomes k (suc m) (c ∷ cs) = ap (λ (os : List Outcome). told k c ∷ os) (first-outcomes ((told k c) .keeper) m cs)
 
+-- the first of what is made of each
+map-take : {A B : Type 0} (f : A → B) (m : ℕ) (l : List A) → map f (take m l) ≡ take m (map f l)
+map-take f zero l = refl
+map-take f (suc m) [] = refl
+map-take f (suc m) (x ∷ l) = ap (λ ys. f x ∷ ys) (map-take f m l)
+
 -- WHAT EARLIER RECORDS DID STAYS
-pub cut-keeps : (n : ℕ) (j : List ℕ) → headerOf j ≡ 0 → outcomesOf (take n j) ≡ take (length (upTo n (walkOf j .entries))) (outcomesOf j)
+pub cut-keeps : (n : ℕ) (j : List ℕ) → headerOf j .number ≡ 0 → outcomesOf (take n j) ≡ take (length (upTo n (walkOf j .entries))) (outcomesOf j)
 cut-keeps n j good =
     let m = length (upTo n (walkOf j .entries)) in
     let k = fresh (startOf j) in
     own-outcomes n j
-    ∙ ap (λ (rs : List Record). outcomes k (map (callOf j) rs)) (cut-first n j good)
-    ∙ ap (outcomes k) (map-take (callOf j) m (recordsOf j))
+    ∙ ap (λ (es : List Entry). outcomes k (map (callOf j) es)) (cut-first n j good)
+    ∙ ap (outcomes k) (map-take (callOf j) m (walkOf j .entries))
     ∙ first-outcomes k m (callsOf j)
 
 -- ---- cut where its walk stops
-module _ (j : List ℕ) (good : headerOf j ≡ 0) where
+module _ (j : List ℕ) (good : headerOf j .number ≡ 0) where
   abbrev saved : List ℕ
   saved = take (walkOf j .stop) j
 
-  saved-records : recordsOf saved ≡ recordsOf j
-  saved-records = records-walked saved ∙ ap recordsIn (salvaged-walk j good) ∙ sym (records-walked j)
+  saved-entries : walkOf saved .entries ≡ walkOf j .entries
+  saved-entries = ap (λ (w : Walk). w .entries) (salvaged-walk j good)
 
-  saved-good : headerOf saved ≡ 0
-  saved-good = header-kept (walkOf j .stop) j (rw (good-walk j good) (stops-ahead j 53)) good
+  saved-good : headerOf saved .number ≡ 0
+  saved-good = header-kept (walkOf j .stop) j (rw (good-walk j good) (stops-ahead 1 j recordsBegin)) good
 
   saved-transcript : transcriptOf saved ≡ linesOf (outcomesOf j) ++ endOf 0
   unfolding transcriptOf
   saved-transcript =
       ap₂ (λ (os : List Outcome) (m : ℕ). linesOf os ++ endOf m)
-      (own-outcomes (walkOf j .stop) j ∙ ap (λ (rs : List Record). outcomes (fresh (startOf j)) (map (callOf j) rs)) saved-records)
-      (ending-walked saved ∙ ap (λ (w : Walk). w .number) (salvaged-walk j good))
+      (own-outcomes (walkOf j .stop) j ∙ ap (λ (es : List Entry). outcomes (fresh (startOf j)) (map (callOf j) es)) saved-entries)
+      (ap (λ (w : Walk). w .number) (salvaged-walk j good))
 
   saved-keeper : (k : Keeper) → replayed saved k ≡ replayed j k
   unfolding replayed pick
   saved-keeper k =
-      rw (eq-eqb (headerOf saved) 0 saved-good, eq-eqb (headerOf j) 0 good)
+      rw (eq-eqb (headerOf saved .number) 0 saved-good, eq-eqb (headerOf j .number) 0 good)
       (ap₂ (λ (s : List ℕ) (cs : List Call). keeperAfter (fresh s) cs) (start-cut (walkOf j .stop) j saved-good)
-      (own-calls (walkOf j .stop) j ∙ ap (map (callOf j)) saved-records))
+      (own-calls (walkOf j .stop) j ∙ ap (map (callOf j)) saved-entries))
 
   -- SALVAGE: nothing is lost of a journal with a good header that is cut where its walk stops
   pub salvaged : Saved j (take (walkOf j .stop) j)

@@ -8,6 +8,7 @@ use lib.Dec.{ltb, eqb}
 use lib.ListN.{length, take, drop, length-append, length-take, length-drop, take-append-drop}
 use lib.Seq.{length-take-le, drop-append-le, take-append-seam}
 use borrow.Author.Tests.{lt-ltb, ltb-true, ltb-false}
+use Rattle.ledger.specs.Sizes.{longest}
 use Rattle.ledger.specs.Choice.{pick}
 use Rattle.ledger.specs.Shapes.{blockingShape}
 use Rattle.ledger.specs.Credits.{taken}
@@ -26,22 +27,22 @@ use Rattle.steps.specs.Promise.{Left, left, over, leaves}
 
 -- ---- no call hands out more than 4,096 bytes
 record Few (o : Outcome) : Type 0 where
-  few : length (o .bytes) ≤ 4096
+  few : length (o .bytes) ≤ longest
 
 none : (o : Outcome) → o .bytes ≡ [] → Few o
 none o e = record { few = omega (arith, ap length e) }
 
-under : (n : ℕ) (l : List ℕ) → n ≤ 4096 → length (take n l) ≤ 4096
+under : (n : ℕ) (l : List ℕ) → n ≤ longest → length (take n l) ≤ longest
 under n l h = omega (arith, length-take n l)
 
-as-many : (m n : ℕ) → m ≡ n → n ≤ 4096 → m ≤ 4096
+as-many : (m n : ℕ) → m ≡ n → n ≤ longest → m ≤ longest
 as-many m n e h = omega (arith, e, h)
 
-made-few : (len : ℕ) (w : Run) → len ≤ 4096 → Few (generate len w)
+made-few : (len : ℕ) (w : Run) → len ≤ longest → Few (generate len w)
 unfolding generate generated
 made-few len w h = record { few = under len _ h }
 
-delivered-few : (n : ℕ) (w : Run) → n ≤ 4096 → Few (deliver n w)
+delivered-few : (n : ℕ) (w : Run) → n ≤ longest → Few (deliver n w)
 unfolding deliver
 delivered-few n w h =
     let t = taken-wanted n 0 (blockingCount (w .0 .ledger)) in
@@ -54,22 +55,22 @@ act-few k (interrupted now number stamp address) = pick-both Few _ (none _ refl)
 act-few k (written bs) = pick-both Few _ (none _ refl) (none _ refl)
 act-few k (seededWith now bs credit) = pick-both Few _ (none _ refl) (pick-both Few _ (none _ refl) (none _ refl))
 act-few k (generatorRead now len) =
-    pick-by Few (ltb 4096 len) (λ h. none _ refl) (λ h. pick-both Few _ (none _ refl) (pick-both Few _ (none _ refl) (made-few len _ (ltb-false 4096 len h))))
+    pick-by Few (ltb longest len) (λ h. none _ refl) (λ h. pick-both Few _ (none _ refl) (pick-both Few _ (none _ refl) (made-few len _ (ltb-false longest len h))))
 act-few k (blockingReadOf n) =
-    pick-by Few (ltb 4096 n) (λ h. none _ refl) (λ h. pick-both Few _ (none _ refl) (pick-both Few _ (none _ refl) (delivered-few n _ (ltb-false 4096 n h))))
+    pick-by Few (ltb longest n) (λ h. none _ refl) (λ h. pick-both Few _ (none _ refl) (pick-both Few _ (none _ refl) (delivered-few n _ (ltb-false longest n h))))
 
-pub few : (k : Keeper) (c : Call) → length ((told k c) .bytes) ≤ 4096
+pub few : (k : Keeper) (c : Call) → length ((told k c) .bytes) ≤ longest
 unfolding told
 few k c = (pick-both Few _ (act-few k c) (none _ refl)) .few
 
 -- ---- over 4,096 bytes the length of a read does not matter
-pub long-read : (k : Keeper) (now m n : ℕ) → 4096 < m → 4096 < n → told k (generatorRead now m) ≡ told k (generatorRead now n)
+pub long-read : (k : Keeper) (now m n : ℕ) → longest < m → longest < n → told k (generatorRead now m) ≡ told k (generatorRead now n)
 unfolding told act readCall pick
-long-read k now m n hm hn = rw (lt-ltb 4096 m hm, lt-ltb 4096 n hn)
+long-read k now m n hm hn = rw (lt-ltb longest m hm, lt-ltb longest n hn)
 
-pub long-blocking : (k : Keeper) (m n : ℕ) → 4096 < m → 4096 < n → told k (blockingReadOf m) ≡ told k (blockingReadOf n)
+pub long-blocking : (k : Keeper) (m n : ℕ) → longest < m → longest < n → told k (blockingReadOf m) ≡ told k (blockingReadOf n)
 unfolding told act blockingCall pick
-long-blocking k m n hm hn = rw (lt-ltb 4096 m hm, lt-ltb 4096 n hn)
+long-blocking k m n hm hn = rw (lt-ltb longest m hm, lt-ltb longest n hn)
 
 -- ---- a call that leaves an empty room empty hands out nothing, and leaves any room as it is
 nothing : (bs : List ℕ) → [] ≡ bs ++ drop (length bs) [] → bs ≡ []
@@ -125,19 +126,19 @@ front k k′ c a room room′ e =
     }
 
 -- ---- a read into a room for at most 4,097 bytes
-pub same-generatorRead : (k : Keeper) (now len n : ℕ) → n ≡ min len 4097 → told k (generatorRead now n) ≡ told k (generatorRead now len)
-same-generatorRead k now len n e = by (ltb 4096 len) refl
+pub same-generatorRead : (k : Keeper) (now len n : ℕ) → n ≡ min len (longest + 1) → told k (generatorRead now n) ≡ told k (generatorRead now len)
+same-generatorRead k now len n e = by (ltb longest len) refl
   where
-    by : (b : Bool) → ltb 4096 len ≡ b → told k (generatorRead now n) ≡ told k (generatorRead now len)
-    by true h = long-read k now n len (omega (arith, e, ltb-true 4096 len h)) (ltb-true 4096 len h)
-    by false h = let m : n ≡ len = omega (arith, e, ltb-false 4096 len h) in ap (λ (x : ℕ). told k (generatorRead now x)) m
+    by : (b : Bool) → ltb longest len ≡ b → told k (generatorRead now n) ≡ told k (generatorRead now len)
+    by true h = long-read k now n len (omega (arith, e, ltb-true longest len h)) (ltb-true longest len h)
+    by false h = let m : n ≡ len = omega (arith, e, ltb-false longest len h) in ap (λ (x : ℕ). told k (generatorRead now x)) m
 
-pub same-blockingReadOf : (k : Keeper) (len n : ℕ) → n ≡ min len 4097 → told k (blockingReadOf n) ≡ told k (blockingReadOf len)
-same-blockingReadOf k len n e = by (ltb 4096 len) refl
+pub same-blockingReadOf : (k : Keeper) (len n : ℕ) → n ≡ min len (longest + 1) → told k (blockingReadOf n) ≡ told k (blockingReadOf len)
+same-blockingReadOf k len n e = by (ltb longest len) refl
   where
-    by : (b : Bool) → ltb 4096 len ≡ b → told k (blockingReadOf n) ≡ told k (blockingReadOf len)
-    by true h = long-blocking k n len (omega (arith, e, ltb-true 4096 len h)) (ltb-true 4096 len h)
-    by false h = let m : n ≡ len = omega (arith, e, ltb-false 4096 len h) in ap (λ (x : ℕ). told k (blockingReadOf x)) m
+    by : (b : Bool) → ltb longest len ≡ b → told k (blockingReadOf n) ≡ told k (blockingReadOf len)
+    by true h = long-blocking k n len (omega (arith, e, ltb-true longest len h)) (ltb-true longest len h)
+    by false h = let m : n ≡ len = omega (arith, e, ltb-false longest len h) in ap (λ (x : ℕ). told k (blockingReadOf x)) m
 
 -- ---- what is promised of a call is promised of another name for it
 pub called : (k k′ : Keeper) (c d : Call) (a : Answer) (room room′ : List ℕ) → c ≡ d → left k′ a room′ ≡ leaves k d room → left k′ a room′ ≡ leaves k c room

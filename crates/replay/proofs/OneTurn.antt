@@ -6,7 +6,8 @@ use Prim.Native.Nat.{ℕ, _+_, _*_, _≤_}
 use native.Mathlib.Omega.{arith}
 use borrow.Author.Tests.{le-leb}
 use lib.ListN.{length, take, drop}
-use Rattle.journal.specs.Records.{readAt}
+use Rattle.journal.specs.Reading.{readAt}
+use Rattle.journal.specs.Walking.{entry}
 use Rattle.journal.specs.declared.records.Record.{Record}
 use Rattle.journal.specs.declared.records.Found.the-variants.{One, Stop, End}
 use Rattle.transcript.specs.Lines.{Written, lineOf, lineIn, endOf, endIn, atStart}
@@ -33,27 +34,27 @@ ended room b n number big h =
     wrote room b (endOf number) n (rw (le-leb 15 (length room) g) at h)
 
 module _ (j : List ℕ) (at : ℕ) (k : Keeper) (room room′ : List ℕ) (n : ℕ) (big : 8259 ≤ length room) where
-  pub at-stop : (number : ℕ) (out : List ℕ) → readAt j at ≡ Stop number → _≡_ {A = Written} (record { count = n; room = room′ }) (endIn room number)
+  pub at-stop : (number : ℕ) (out : List ℕ) → readAt 1 j at ≡ Stop number → _≡_ {A = Written} (record { count = n; room = room′ }) (endIn room number)
       → Took (turnOf j at k) k (record { ledger = k .ledger; at = at; more = false; count = n }) out out room room′
   unfolding turnOf after
   at-stop number out e h =
       let q = ended room room′ n number big h in
       rw e (record { keeper = refl; at = refl; more = refl; count = q .0; handed = refl; written = q .1 })
 
-  pub at-end : (out : List ℕ) → readAt j at ≡ End → _≡_ {A = Written} (record { count = n; room = room′ }) (endIn room 0)
+  pub at-end : (out : List ℕ) → readAt 1 j at ≡ End → _≡_ {A = Written} (record { count = n; room = room′ }) (endIn room 0)
       → Took (turnOf j at k) k (record { ledger = k .ledger; at = at; more = false; count = n }) out out room room′
   unfolding turnOf after
   at-end out e h =
       let q = ended room room′ n 0 big h in
       rw e (record { keeper = refl; at = refl; more = refl; count = q .0; handed = refl; written = q .1 })
 
-  pub at-one : (r : Record) (next : ℕ) (k′ : Keeper) (a : Answer) (out out′ : List ℕ) → readAt j at ≡ One r next
-      → left k′ a out′ ≡ leaves k (callOf j r) out
+  pub at-one : (r : Record) (next : ℕ) (k′ : Keeper) (a : Answer) (out out′ : List ℕ) → readAt 1 j at ≡ One r next
+      → left k′ a out′ ≡ leaves k (callOf j (entry at r next)) out
       → _≡_ {A = Written} (record { count = n; room = room′ }) (lineIn room a (inputCount (k′ .ledger)) (blockingCount (k′ .ledger)) (take (a .delivered) out′))
       → Took (turnOf j at k) k′ (record { ledger = k′ .ledger; at = next; more = true; count = n }) out out′ room room′
   unfolding turnOf after lineIn lineFor leaves
   at-one r next k′ a out out′ e l h =
-      let c = callOf j r in
+      let c = callOf j (entry at r next) in
       let o = told k c in
       let ek : k′ ≡ o .keeper = ap (λ (x : Left). x .keeper) l in
       let ea : a ≡ o .answer = ap (λ (x : Left). x .answer) l in

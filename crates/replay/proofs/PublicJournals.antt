@@ -11,7 +11,7 @@ use lib.ListN.{length, replicate}
 use Rattle.ledger.specs.Choice.{pick}
 use Rattle.ledger.specs.Marks.{inputCount, blockingCount}
 use Rattle.journal.specs.Header.{headerOf, startOf}
-use Rattle.journal.specs.Ending.{endingOf}
+use Rattle.journal.specs.Walking.{endingOf}
 use Rattle.journal.proofs.Laws.{start-48}
 use Rattle.transcript.specs.Text.{digits, decimalOf, wordOf, glyphOf, hexOf, tailOf}
 use Rattle.transcript.specs.Lines.{lineOf, endOf}
@@ -135,7 +135,7 @@ alike-lines (o ∷ os) (p ∷ ps) t (a-call h c) (a-call g d) (also a r) =
     ∙ ap blotted (sym (append-assoc (lineFor p) (linesOf ps) t))
 
 -- DEMAND 3
-pub public-journals : (j j′ : List ℕ) → headerOf j ≡ 0 → headerOf j′ ≡ 0 → map public (callsOf j) ≡ map public (callsOf j′) → endingOf j ≡ endingOf j′
+pub public-journals : (j j′ : List ℕ) → headerOf j .number ≡ 0 → headerOf j′ .number ≡ 0 → map public (callsOf j) ≡ map public (callsOf j′) → endingOf j ≡ endingOf j′
     → blotted (transcriptOf j) ≡ blotted (transcriptOf j′)
 unfolding transcriptOf
 public-journals j j′ h h′ e n =

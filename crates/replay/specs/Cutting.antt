@@ -6,7 +6,6 @@ use Prim.Native.Nat.{ℕ}
 use lib.Dec.{eqb}
 use Rattle.ledger.specs.Choice.{pick}
 use Rattle.journal.specs.Header.{headerWithin, startOf}
-use Rattle.journal.specs.Walking.{recordsIn}
 use Rattle.journal.specs.Cutting.{walkWithin}
 use Rattle.transcript.specs.Lines.{endOf}
 use Rattle.keeper.specs.Record.{Outcome, fresh}
@@ -17,7 +16,7 @@ use Rattle.replay.specs.Running.{callOf}
 use Rattle.replay.specs.Whole.{outcomesOf, linesOf, transcriptOf, replayed}
 
 abbrev pub callsWithin : ℕ → List ℕ → List Call
-callsWithin n j = map (callOf j) (recordsIn (walkWithin n j))
+callsWithin n j = map (callOf j) (walkWithin n j .entries)
 
 abbrev pub outcomesWithin : ℕ → List ℕ → List Outcome
 outcomesWithin n j = outcomes (fresh (startOf j)) (callsWithin n j)
@@ -27,7 +26,7 @@ transcriptWithin n j = linesOf (outcomesWithin n j) ++ endOf (walkWithin n j .nu
 
 -- the keeper that this leaves in a record; where what is left of the header is not good, the record stays as it was
 unfoldable pub replayedWithin : ℕ → List ℕ → Keeper → Keeper
-replayedWithin n j k = pick (eqb (headerWithin n j) 0) (keeperAfter (fresh (startOf j)) (callsWithin n j)) k
+replayedWithin n j k = pick (eqb (headerWithin n j .number) 0) (keeperAfter (fresh (startOf j)) (callsWithin n j)) k
 
 -- a journal that is saved out of another: the very lines of the other, and then the end of a journal that ends well; and the same keeper
 pub record Saved (j saved : List ℕ) : Type 0 where

@@ -1,7 +1,8 @@
 -- A record run on a keeper: the call that it stands for, and the line that the transcript has for it.
 use mathlib.Core.List.{List}
 use Prim.Native.Nat.{ℕ}
-use lib.ListN.{take, drop}
+use Rattle.journal.specs.Writing.{carriedBy}
+use Rattle.journal.specs.Walking.{Entry}
 use Rattle.journal.specs.declared.records.Record.{Record}
 use Rattle.journal.specs.declared.records.Record.the-variants.{Event, Interrupt, Write, Seed, Read, BlockingRead}
 use Rattle.transcript.specs.Lines.{lineOf}
@@ -9,14 +10,18 @@ use Rattle.ledger.specs.Marks.{inputCount, blockingCount}
 use Rattle.keeper.specs.Record.{Outcome}
 use Rattle.keeper.specs.Calls.{Call, deviceEvent, interrupted, written, seededWith, generatorRead, blockingReadOf}
 
--- the bytes of a write or a seed are a part of the journal; the clocks of kinds 3 and 6 are used by no rule
-unfoldable pub callOf : List ℕ → Record → Call
-callOf j (Event now device stamp value) = deviceEvent device now stamp value
-callOf j (Interrupt now number stamp address) = interrupted now number stamp address
-callOf j (Write now start len) = written (take len (drop start j))
-callOf j (Seed now credit start len) = seededWith now (take len (drop start j)) credit
-callOf j (Read now len) = generatorRead now len
-callOf j (BlockingRead now len) = blockingReadOf len
+-- a record with the bytes that it carries; the clocks of kinds 3 and 6 are used by no rule
+unfoldable pub callWith : List ℕ → Record → Call
+callWith bs (Event now device stamp value) = deviceEvent device now stamp value
+callWith bs (Interrupt now number stamp address) = interrupted now number stamp address
+callWith bs (Write now len) = written bs
+callWith bs (Seed now len credit) = seededWith now bs credit
+callWith bs (Read now len) = generatorRead now len
+callWith bs (BlockingRead now len) = blockingReadOf len
+
+-- the call of a journal's entry: the bytes of a write or a seed are a part of the journal
+abbrev pub callOf : List ℕ → Entry → Call
+callOf j e = callWith (carriedBy j (e .what) (e .next)) (e .what)
 
 -- one line a record: the answer, then the counts as they are after it, then the bytes
 unfoldable pub lineFor : Outcome → List ℕ

@@ -4,7 +4,8 @@ use mathlib.Core.Path.{_≡_}
 use mathlib.Core.List.{List, [], _++_}
 use Prim.Native.Nat.{ℕ}
 use lib.ListN.{length, drop}
-use Rattle.journal.specs.Records.{readAt}
+use Rattle.journal.specs.Reading.{readAt}
+use Rattle.journal.specs.Walking.{entry}
 use Rattle.journal.specs.declared.records.Found.{Found}
 use Rattle.journal.specs.declared.records.Found.the-variants.{One, Stop, End}
 use Rattle.transcript.specs.Lines.{endOf}
@@ -25,13 +26,13 @@ pub record After : Type 0 where
 -- a record is run; what ends the replay has no line of its own and leaves the keeper alone
 unfoldable pub after : List ℕ → ℕ → Keeper → Found → After
 after j at k (One r next) =
-    let o = told k (callOf j r) in
+    let o = told k (callOf j (entry at r next)) in
     record { keeper = o .keeper; at = next; more = true; bytes = o .bytes; line = lineFor o }
 after j at k (Stop n) = record { keeper = k; at = at; more = false; bytes = []; line = endOf n }
 after j at k End = record { keeper = k; at = at; more = false; bytes = []; line = endOf 0 }
 
 unfoldable pub turnOf : List ℕ → ℕ → Keeper → After
-turnOf j at k = after j at k (readAt j at)
+turnOf j at k = after j at k (readAt 1 j at)
 
 -- what the code hands back of a turn, and what then stands in the two rooms that it is lent
 pub record Took (a : After) (k : Keeper) (t : Turn) (bytes bytes′ room room′ : List ℕ) : Type 0 where

@@ -1,12 +1,11 @@
 -- The whole replay of a journal: its transcript, the keeper that it leaves, what turns write one after another, and what of it the public
 -- fields decide.
-use mathlib.Core.Bool.{Bool, true, false}
 use mathlib.Core.List.{List, [], _∷_, _++_, map}
 use Prim.Native.Nat.{ℕ, zero, suc, _-_}
 use lib.Dec.{eqb}
 use Rattle.ledger.specs.Choice.{pick}
 use Rattle.journal.specs.Header.{headerOf, startOf}
-use Rattle.journal.specs.Ending.{endingOf, recordsOf}
+use Rattle.journal.specs.Walking.{walkOf, endingOf}
 use Rattle.transcript.specs.Lines.{endOf}
 use Rattle.keeper.specs.Record.{Outcome, fresh}
 use Rattle.keeper.specs.Calls.{Call}
@@ -17,7 +16,7 @@ use Rattle.replay.specs.Turns.{turnOf}
 
 -- the calls of a journal: one for each whole record, up to what ends the replay
 abbrev pub callsOf : List ℕ → List Call
-callsOf j = map (callOf j) (recordsOf j)
+callsOf j = map (callOf j) (walkOf j .entries)
 
 -- what comes of them, on a fresh keeper of the journal's start bytes
 abbrev pub outcomesOf : List ℕ → List Outcome
@@ -34,17 +33,13 @@ transcriptOf j = linesOf (outcomesOf j) ++ endOf (endingOf j)
 
 -- the keeper that a replay leaves in a record; where the header is not good, the record stays as it was
 unfoldable pub replayed : List ℕ → Keeper → Keeper
-replayed j k = pick (eqb (headerOf j) 0) (keeperAfter (fresh (startOf j)) (callsOf j)) k
+replayed j k = pick (eqb (headerOf j .number) 0) (keeperAfter (fresh (startOf j)) (callsOf j)) k
 
 -- what n turns write, stopping where a turn says that there is no more
-abbrev pub ifMore : {A : Type 0} → Bool → List A → List A
-ifMore true l = l
-ifMore false l = []
-
 unfoldable pub turnsWrite : ℕ → List ℕ → ℕ → Keeper → List ℕ
 turnsWrite zero j at k = []
 turnsWrite (suc n) j at k =
-    let a = turnOf j at k in a .line ++ ifMore (a .more) (turnsWrite n j (a .at) (a .keeper))
+    let a = turnOf j at k in a .line ++ pick (a .more) (turnsWrite n j (a .at) (a .keeper)) []
 
 -- ---- a transcript with the hex blotted out, and all else as it is. Between a line's six numbers stand five spaces: the sixth opens the hex
 -- how many spaces of its line are still to come, behind a byte: six at the line's start, none in the hex

@@ -8,5 +8,6 @@
 mod running;
 pub mod turns;
 
+pub use running::OUT_ROOM;
 pub use turns::Turn;
 pub use turns::take_turn;

@@ -1,14 +1,17 @@
 // One record run on a keeper.
 ghost use mathlib.Core.Path.{_≡_};
 ghost use mathlib.Core.List.{List};
-ghost use Prim.Native.Nat.{ℕ, min};
+ghost use Prim.Native.Nat.{ℕ, _+_, min};
 ghost use lib.ListN.{length};
+ghost use Rattle.ledger.specs.Sizes.{longest};
 ghost use Rattle.keeper.specs.Calls.{generatorRead, blockingReadOf};
 ghost use Rattle.steps.specs.Promise.{keeperOf, left, leaves};
-ghost use Rattle.replay.specs.Running.{callOf};
+ghost use Rattle.journal.specs.Writing.{carriedBy};
+ghost use Rattle.replay.specs.Running.{callWith};
 use journal::Record;
 use journal::payload;
 use ledger::Ledger;
+use ledger::sizes::LONGEST;
 use steps::Done;
 use steps::blocking_read_on;
 use steps::event_on;
@@ -17,11 +20,14 @@ use steps::read_on;
 use steps::seed_on;
 use steps::write_on;
 
-// A room for a read of any length: over 4,096 bytes a read is refused, whatever its length, so one byte more than that is enough.
+// A room for a read of any length: a read of more than the longest is refused, whatever its length, so one byte more is enough.
+pub const OUT_ROOM: usize = LONGEST + 1;
+
 fn room_for(len: u32) -> usize
-    ensures { λ r. ⌜ r ≡ min len 4097 ⌝ }
+    ensures { λ r. ⌜ r ≡ min len (longest + 1) ⌝ }
 {
-    if len < 4097 { len as usize } else { 4097 }
+    let n = len as usize;
+    if n < OUT_ROOM { n } else { OUT_ROOM }
 }
 
 // A generator read of len bytes.
@@ -35,7 +41,7 @@ fn read_into(
     out: &mut [u8],
     len: u32,
 ) -> Done
-    requires { ⌜ length (now out) ≡ 4097 ⌝ }
+    requires { ⌜ length (now out) ≡ longest + 1 ⌝ }
     ensures { λ r. ⌜ ((clocks blocking fast : List ℕ) → left (keeperOf (r .ledger) clocks (now (firsts .entry)) (now (seconds .entry)) (now (input .exit)) blocking fast (now (generator .exit))) (r .answer) (now (out .exit)) ≡ leaves (keeperOf l clocks (now (firsts .entry)) (now (seconds .entry)) (now (input .entry)) blocking fast (now (generator .entry))) (generatorRead at len) (now (out .entry))) ⌝ }
 {
     let n = room_for(len);
@@ -53,7 +59,7 @@ fn blocking_read_into(
     out: &mut [u8],
     len: u32,
 ) -> Done
-    requires { ⌜ length (now out) ≡ 4097 ⌝ }
+    requires { ⌜ length (now out) ≡ longest + 1 ⌝ }
     ensures { λ r. ⌜ ((clocks fast : List ℕ) → left (keeperOf (r .ledger) clocks (now (firsts .entry)) (now (seconds .entry)) (now (input .exit)) (now (blocking .exit)) fast (now (generator .entry))) (r .answer) (now (out .exit)) ≡ leaves (keeperOf l clocks (now (firsts .entry)) (now (seconds .entry)) (now (input .entry)) (now (blocking .entry)) fast (now (generator .entry))) (blockingReadOf len) (now (out .entry))) ⌝ }
 {
     let n = room_for(len);
@@ -68,10 +74,11 @@ fn blocking_read_into(
     )
 }
 
-// The call that a record stands for. What it hands out is laid into the front of `out`.
+// The call that a record stands for; `next` is the position after it. What it hands out is laid into the front of `out`.
 pub fn run(
     j: &[u8],
     it: Record,
+    next: usize,
     l: Ledger,
     clocks: &mut [u32; 16],
     firsts: &mut [i64; 16],
@@ -82,8 +89,8 @@ pub fn run(
     generator: &mut [u32; 16],
     out: &mut [u8],
 ) -> Done
-    requires { ⌜ length (now out) ≡ 4097 ⌝ }
-    ensures { λ r. ⌜ left (keeperOf (r .ledger) (now (clocks .exit)) (now (firsts .exit)) (now (seconds .exit)) (now (input .exit)) (now (blocking .exit)) (now (fast .exit)) (now (generator .exit))) (r .answer) (now (out .exit)) ≡ leaves (keeperOf l (now (clocks .entry)) (now (firsts .entry)) (now (seconds .entry)) (now (input .entry)) (now (blocking .entry)) (now (fast .entry)) (now (generator .entry))) (callOf (now (j .entry)) it) (now (out .entry)) ⌝ }
+    requires { ⌜ length (now out) ≡ longest + 1 ⌝ }
+    ensures { λ r. ⌜ left (keeperOf (r .ledger) (now (clocks .exit)) (now (firsts .exit)) (now (seconds .exit)) (now (input .exit)) (now (blocking .exit)) (now (fast .exit)) (now (generator .exit))) (r .answer) (now (out .exit)) ≡ leaves (keeperOf l (now (clocks .entry)) (now (firsts .entry)) (now (seconds .entry)) (now (input .entry)) (now (blocking .entry)) (now (fast .entry)) (now (generator .entry))) (callWith (carriedBy (now (j .entry)) it next) it) (now (out .entry)) ⌝ }
 {
     match it {
         Record::Event {
@@ -98,7 +105,7 @@ pub fn run(
             seconds,
             input,
             generator,
-            device as u32,
+            device,
             now,
             stamp,
             value,
@@ -120,27 +127,22 @@ pub fn run(
             stamp,
             address,
         ),
-        Record::Write { now: _, start, len } => write_on(
+        Record::Write { now: _, len } => write_on(
             l,
             firsts,
             seconds,
             input,
             generator,
-            payload(j, start, len),
+            payload(j, next, len),
         ),
-        Record::Seed {
-            now,
-            credit,
-            start,
-            len,
-        } => seed_on(
+        Record::Seed { now, len, credit } => seed_on(
             l,
             firsts,
             seconds,
             input,
             generator,
             now,
-            payload(j, start, len),
+            payload(j, next, len),
             credit,
         ),
         Record::Read { now, len } => read_into(l, firsts, seconds, input, generator, now, out, len),

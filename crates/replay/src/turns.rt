@@ -6,6 +6,7 @@ ghost use Rattle.ledger.specs.Marks.{inputCount, blockingCount};
 ghost use Rattle.transcript.specs.Lines.{lineIn};
 ghost use Rattle.steps.specs.Promise.{keeperOf};
 ghost use Rattle.replay.specs.Turns.{turnOf, Took};
+use crate::running::OUT_ROOM;
 use crate::running::run;
 use journal::Found;
 use journal::read;
@@ -43,7 +44,7 @@ pub fn take_turn(
     blocking: &mut [u32; 32],
     fast: &mut [u32; 4],
     generator: &mut [u32; 16],
-    out: &mut [u8; 4097],
+    out: &mut [u8; OUT_ROOM],
     room: &mut [u8; 8259],
 ) -> Turn
     ensures { λ r. ⌜ Took (turnOf (now (j .entry)) at (keeperOf l (now (clocks .entry)) (now (firsts .entry)) (now (seconds .entry)) (now (input .entry)) (now (blocking .entry)) (now (fast .entry)) (now (generator .entry)))) (keeperOf (r .ledger) (now (clocks .exit)) (now (firsts .exit)) (now (seconds .exit)) (now (input .exit)) (now (blocking .exit)) (now (fast .exit)) (now (generator .exit))) r (now (out .entry)) (now (out .exit)) (now (room .entry)) (now (room .exit)) ⌝ }
@@ -53,6 +54,7 @@ pub fn take_turn(
             let d = run(
                 j,
                 it,
+                next,
                 l,
                 clocks,
                 firsts,

@@ -18,13 +18,14 @@ use Rattle.keeper.specs.FastPool.{stirred}
 use Rattle.keeper.specs.Generator.{xorAt, counted, stream, generated}
 use Rattle.keeper.specs.Narrative.{reseed, creditInput, eventCall, interruptCall, seedCall, generate, readCall, transfer, deliver, blockingCall, act, told}
 use Rattle.keeper.specs.Demands.{outcomes}
-use Rattle.journal.specs.Fields.{num}
-use Rattle.journal.specs.Header.{headerWithin, headerOf, startOf}
-use Rattle.journal.specs.Records.{whole, carried, eventAt, interruptAt, seedAt, generatorReadAt, blockingReadAt, recordAt, readAt}
-use Rattle.journal.specs.Ending.{endingFrom, endingOf, recordsFrom, recordsOf}
+use Rattle.journal.specs.Layout.{widths, sum, recordOf, carries}
+use Rattle.journal.specs.Reading.{fieldsIn, carrying, opened, front, readAt}
+use Rattle.journal.specs.Writing.{carriedBy}
+use Rattle.journal.specs.Header.{refusalWithin, headerWithin, headerOf, startOf}
+use Rattle.journal.specs.Walking.{walkFrom, walk, behind, walkOf}
 use Rattle.transcript.specs.Text.{digits, wordOf, glyphOf, hexOf, tailOf}
 use Rattle.transcript.specs.Lines.{lineOf, endOf}
-use Rattle.replay.specs.Running.{callOf, lineFor}
+use Rattle.replay.specs.Running.{callWith, lineFor}
 use Rattle.replay.specs.Whole.{linesOf, transcriptOf, spacesLeft, blot, blottedFrom, blotted}
 
 -- the mark and the version
@@ -39,7 +40,7 @@ end-0 = 101 ∷ 110 ∷ 100 ∷ 32 ∷ 48 ∷ 10 ∷ []
 pub paper-told : transcriptOf (opening ++ replicate 48 0 ++ (5 ∷ 0 ∷ 0 ∷ 0 ∷ 0 ∷ 4 ∷ 0 ∷ []))
     -- `2 0 0 0 0 0`
     ≡ (50 ∷ 32 ∷ 48 ∷ 32 ∷ 48 ∷ 32 ∷ 48 ∷ 32 ∷ 48 ∷ 32 ∷ 48 ∷ 10 ∷ []) ++ end-0
-unfolding transcriptOf linesOf outcomes lineFor callOf recordsOf recordsFrom endingOf endingFrom headerWithin headerOf startOf readAt recordAt generatorReadAt whole num lineOf endOf wordOf digits tailOf told inRange restInRange ledgerInRange act readCall bytesWords leNumber pick
+unfolding transcriptOf linesOf outcomes lineFor callWith carriedBy walkOf behind walk walkFrom headerOf headerWithin refusalWithin startOf readAt front opened carrying fieldsIn widths sum recordOf carries lineOf endOf wordOf digits tailOf told inRange restInRange ledgerInRange act readCall bytesWords leNumber pick
 paper-told = refl
 
 -- ---- six records: each with its bytes, and with its line
@@ -105,7 +106,7 @@ abbrev six : List ℕ
 six = opening ++ (start ++ (event ++ (interrupt ++ (seeding ++ (eight ++ (credit ++ three))))))
 
 pub six-told : transcriptOf six ≡ event-line ++ (interrupt-line ++ (seeding-line ++ (eight-line ++ (credit-line ++ (three-line ++ end-0)))))
-unfolding transcriptOf linesOf outcomes lineFor callOf recordsOf recordsFrom endingOf endingFrom headerWithin headerOf startOf readAt recordAt eventAt interruptAt seedAt generatorReadAt blockingReadAt carried whole num lineOf endOf wordOf digits tailOf hexOf glyphOf told inRange restInRange ledgerInRange act eventCall interruptCall seedCall readCall generate blockingCall deliver transfer creditInput reseed eventBits estimate log2 signed taken credited further stirred generated stream counted xorAt bytesWords leNumber wordsBytes leBytes chachaBlock rounds innerBlock quarterRound line extractBlocks poolHash hashed folded compressed initialHash run step schedule nextWord constant Sha1·mix ch parity maj swapped mix mixedWords tapped twisted rotl zipWith pick
+unfolding transcriptOf linesOf outcomes lineFor callWith carriedBy walkOf behind walk walkFrom headerOf headerWithin refusalWithin startOf readAt front opened carrying fieldsIn widths sum recordOf carries lineOf endOf wordOf digits tailOf hexOf glyphOf told inRange restInRange ledgerInRange act eventCall interruptCall seedCall readCall generate blockingCall deliver transfer creditInput reseed eventBits estimate log2 signed taken credited further stirred generated stream counted xorAt bytesWords leNumber wordsBytes leBytes chachaBlock rounds innerBlock quarterRound line extractBlocks poolHash hashed folded compressed initialHash run step schedule nextWord constant Sha1·mix ch parity maj swapped mix mixedWords tapped twisted rotl zipWith pick
 six-told = refl
 
 -- ---- the hex blotted out: `0 3 256 192 0 10*******`, and the last line as it is

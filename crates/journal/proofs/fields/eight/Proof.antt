@@ -1,4 +1,3 @@
-use denote.Ref.{now}
 use Rattle.journal.proofs.Parts.{num-8}
 use native.Mathlib.Omega.{arith}
 use borrow.Author.Needs.{needs}
@@ -27,7 +26,9 @@ add-result : tie.Need-add-result
 add-result c = search needs
 
 returns : tie.Need-returns
-returns c = let a = c .before .before .before .args in omega (arith, num-8 (now (a .j)) (a .at))
+returns c =
+    let s : tie.Start = search in
+    omega (arith, num-8 (s .args .j .now) (s .args .at) (omega arith))
 
 pub eight-spec : {M : Type 1} → statement M
 eight-spec =

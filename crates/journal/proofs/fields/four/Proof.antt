@@ -1,4 +1,3 @@
-use denote.Ref.{now}
 use Rattle.journal.proofs.Parts.{num-4}
 use native.Mathlib.Omega.{arith}
 use borrow.Author.Needs.{needs}
@@ -21,7 +20,9 @@ add-result : tie.Need-add-result
 add-result c = search needs
 
 returns : tie.Need-returns
-returns c = let a = c .before .before .before .args in omega (arith, num-4 (now (a .j)) (a .at))
+returns c =
+    let s : tie.Start = search in
+    omega (arith, num-4 (s .args .j .now) (s .args .at) (omega arith))
 
 pub four-spec : {M : Type 1} → statement M
 four-spec = tie.close (tie.spec two-requires add-two two-requires-2 mul-result add-result returns)

@@ -1,44 +1,44 @@
-use Prim.Native.Nat.{_+_}
-use Rattle.journal.specs.Fields.{num}
+use Rattle.journal.proofs.Parts.{num-2}
 use native.Mathlib.Omega.{arith}
 use borrow.Author.Needs.{needs}
 use Rattle.journal.proofs.fields.two.Statement.{statement}
 use Rattle.journal.proofs.fields.two.Tie as tie
 
-shared-slice-read-result : tie.Need-shared-slice-read-result
-shared-slice-read-result c = search needs
+shared-slice-read-wide : tie.Need-shared-slice-read-wide
+shared-slice-read-wide c = search needs
 
-cast-result : tie.Need-cast-result
-cast-result c = omega (arith, c .shared-slice-known .given (c .before .args .at))
+wide-requires : tie.Need-wide-requires
+wide-requires c κs = search needs
+
+add-wide : tie.Need-add-wide
+add-wide c = search needs
+
+shared-slice-read-wide-2 : tie.Need-shared-slice-read-wide-2
+shared-slice-read-wide-2 c = search needs
+
+wide-requires-2 : tie.Need-wide-requires-2
+wide-requires-2 c κs = search needs
+
+mul-result : tie.Need-mul-result
+mul-result c = search needs
 
 add-result : tie.Need-add-result
 add-result c = search needs
 
-shared-slice-read-result-2 : tie.Need-shared-slice-read-result-2
-shared-slice-read-result-2 c = search needs
-
-cast-result-2 : tie.Need-cast-result-2
-cast-result-2 c = omega (arith, c .before .shared-slice-known .given (c .before .before .args .at), c .shared-slice-known2 .given (c .before .before .args .at + 1))
-
-mul-result : tie.Need-mul-result
-mul-result c = omega (arith, c .before .shared-slice-known .given (c .before .before .args .at), c .shared-slice-known2 .given (c .before .before .args .at + 1))
-
-add-result-2 : tie.Need-add-result-2
-add-result-2 c = omega (arith, c .before .shared-slice-known .given (c .before .before .args .at), c .shared-slice-known2 .given (c .before .before .args .at + 1))
-
 returns : tie.Need-returns
-unfolding num
-returns c = (omega (arith, c .before .shared-slice-known .given (c .before .before .args .at), c .shared-slice-known2 .given (c .before .before .args .at + 1)), omega (arith, c .before .shared-slice-known .given (c .before .before .args .at), c .shared-slice-known2 .given (c .before .before .args .at + 1)))
+returns c =
+    let s : tie.Start = search in
+    (omega (arith, num-2 (s .args .j .now) (s .args .at) (omega arith)), omega arith)
 
 pub two-spec : {M : Type 1} → statement M
 two-spec =
     tie.close
     (tie.spec
-    shared-slice-read-result
-    cast-result
-    add-result
-    shared-slice-read-result-2
-    cast-result-2
+    shared-slice-read-wide
+    wide-requires
+    add-wide
+    shared-slice-read-wide-2
+    wide-requires-2
     mul-result
-    add-result-2
+    add-result
     returns)

@@ -1,60 +1,24 @@
-use denote.Ref.{now}
-use Rattle.journal.proofs.Parts.{beyond, up-to-the-end}
-use native.Mathlib.Nat.{add-sub-cancel-left}
+use mathlib.Core.Path.{_≡_}
+use Prim.Native.Nat.{_-_}
 use native.Mathlib.Omega.{arith}
 use borrow.Author.Needs.{needs}
 use Rattle.journal.proofs.part.payload.Statement.{statement}
 use Rattle.journal.proofs.part.payload.Tie as tie
 
-slice-aggregate-result : tie.Need-slice-aggregate-result
-slice-aggregate-result c = search needs
+part-requires : tie.Need-part-requires
+part-requires c κs = search needs
 
 returns : tie.Need-returns
-returns c = let a = c .before .before .args in beyond (now (a .j)) (a .start) (a .len) (c .before .if1 .taken)
+returns c =
+    let s : tie.Start = search in
+    let e : s .args .next - s .args .len ≡ 0 = omega arith in
+    rw e (c .part .ensures)
 
-sub-if2 : tie.Need-sub-if2
-sub-if2 c = search needs
-
-sub-result : tie.Need-sub-result
-sub-result c = search needs
-
-part-result-start : tie.Need-part-result-start
-part-result-start c = search needs
-
-part-result-end : tie.Need-part-result-end
-part-result-end c = search needs
+part-requires-2 : tie.Need-part-requires-2
+part-requires-2 c κs = search needs
 
 returns-2 : tie.Need-returns-2
-returns-2 c = let a = c .before .before .before .args in up-to-the-end (now (a .j)) (a .start) (a .len) (omega arith)
-
-add-result : tie.Need-add-result
-add-result c = search needs
-
-sub-result-2 : tie.Need-sub-result-2
-sub-result-2 c = search needs
-
-part-result-start-2 : tie.Need-part-result-start-2
-part-result-start-2 c = search needs
-
-part-result-end-2 : tie.Need-part-result-end-2
-part-result-end-2 c = search needs
-
-returns-3 : tie.Need-returns-3
-returns-3 c = let a = c .before .before .before .args in rw (add-sub-cancel-left (a .start) (a .len))
+returns-2 c = search needs
 
 pub payload-spec : {M : Type 1} → statement M
-payload-spec =
-    tie.close
-    (tie.spec
-    slice-aggregate-result
-    returns
-    sub-if2
-    sub-result
-    part-result-start
-    part-result-end
-    returns-2
-    add-result
-    sub-result-2
-    part-result-start-2
-    part-result-end-2
-    returns-3)
+payload-spec = tie.close (tie.spec part-requires returns part-requires-2 returns-2)

@@ -1,39 +1,42 @@
-use Rattle.ledger.specs.Choice.{pick}
-use denote.Ref.{now}
-use Rattle.journal.specs.Records.{carried}
-use borrow.Author.Tests.{lt-ltb, le-ltb, le-leb, lt-leb}
+use Prim.Native.Nat.{_-_, _≤_, _<_}
+use borrow.Author.Tests.{lt-ltb, le-ltb}
 use lib.ListN.{length}
-use Prim.Native.Nat.{_+_, _≤_, _<_}
+use Rattle.ledger.specs.Choice.{pick}
+use Rattle.ledger.specs.Sizes.{longest}
+use Rattle.journal.specs.Reading.{carrying}
 use native.Mathlib.Omega.{arith}
 use borrow.Author.Needs.{needs}
 use Rattle.journal.proofs.records.carry.Statement.{statement}
 use Rattle.journal.proofs.records.carry.Tie as tie
 
 returns : tie.Need-returns
-unfolding carried pick
-returns c = let a = c .before .args in let long : 4096 < a .len = omega arith in rw (lt-ltb _ _ long)
+unfolding carrying pick
+returns c =
+    let s : tie.Start = search in
+    let long : longest < s .args .len = omega arith in
+    rw (← s .pre .1, lt-ltb longest (s .args .len) long)
 
 sub-if2 : tie.Need-sub-if2
 sub-if2 c = search needs
 
 returns-2 : tie.Need-returns-2
-unfolding carried pick
+unfolding carrying pick
 returns-2 c =
-    let a = c .before .before .args in
-    let short : a .len ≤ 4096 = omega arith in
-    let missing : length (now (a .j)) < a .start + a .len = omega arith in
-    rw (le-ltb _ _ short, lt-leb _ _ missing)
+    let s : tie.Start = search in
+    let short : s .args .len ≤ longest = omega arith in
+    let missing : length (s .args .j .now) - s .args .start < s .args .len = omega arith in
+    rw (← s .pre .1, le-ltb longest (s .args .len) short, lt-ltb _ _ missing)
 
 add-t6 : tie.Need-add-t6
 add-t6 c = search needs
 
 returns-3 : tie.Need-returns-3
-unfolding carried pick
+unfolding carrying pick
 returns-3 c =
-    let a = c .before .before .args in
-    let short : a .len ≤ 4096 = omega arith in
-    let there : a .start + a .len ≤ length (now (a .j)) = omega arith in
-    rw (le-ltb _ _ short, le-leb _ _ there)
+    let s : tie.Start = search in
+    let short : s .args .len ≤ longest = omega arith in
+    let there : s .args .len ≤ length (s .args .j .now) - s .args .start = omega arith in
+    rw (← s .pre .1, le-ltb longest (s .args .len) short, le-ltb _ _ there)
 
 pub carry-spec : {M : Type 1} → statement M
 carry-spec = tie.close (tie.spec returns sub-if2 returns-2 add-t6 returns-3)

@@ -1,5 +1,7 @@
-use Rattle.journal.specs.Records.{eventAt}
-use Rattle.journal.proofs.Parts.{full, cut-off}
+use mathlib.Core.Path.{refl}
+use Prim.Native.Nat.{_+_}
+use Rattle.journal.specs.Layout.{carries}
+use Rattle.journal.proofs.Parts.{off, full, event-kind, num-1}
 use native.Mathlib.Omega.{arith}
 use borrow.Author.Needs.{needs}
 use Rattle.journal.proofs.records.event.Statement.{statement}
@@ -9,14 +11,22 @@ sub-if1 : tie.Need-sub-if1
 sub-if1 c = search needs
 
 returns : tie.Need-returns
-unfolding eventAt
-returns c = cut-off _ _ _ _ (omega arith)
+returns c = off _ _ _ _ _ (event-kind _ _) (omega arith) (omega arith)
 
 add-four : tie.Need-add-four
 add-four c = search needs
 
 four-requires : tie.Need-four-requires
 four-requires c κs = search needs
+
+add-wide : tie.Need-add-wide
+add-wide c = search needs
+
+shared-slice-read-wide : tie.Need-shared-slice-read-wide
+shared-slice-read-wide c = search needs
+
+wide-requires : tie.Need-wide-requires
+wide-requires c κs = search needs
 
 add-eight : tie.Need-add-eight
 add-eight c = search needs
@@ -33,15 +43,14 @@ four-requires-2 c κs = search needs
 add-t7 : tie.Need-add-t7
 add-t7 c = search needs
 
-shared-slice-read-t10 : tie.Need-shared-slice-read-t10
-shared-slice-read-t10 c = search needs
-
-add-t6 : tie.Need-add-t6
-add-t6 c = search needs
-
 returns-2 : tie.Need-returns-2
-unfolding eventAt
-returns-2 c = full _ _ _ _ _ (omega arith) (cc)
+unfolding carries
+returns-2 c =
+    let s : tie.Start = search in
+    let j = s .args .j .now in
+    let at = s .args .at in
+    let d = num-1 j (at + 5) (omega arith) in
+    full _ _ j at _ (event-kind j at) _ _ (cc) refl (omega arith) (omega arith)
 
 pub event-spec : {M : Type 1} → statement M
 event-spec =
@@ -51,11 +60,12 @@ event-spec =
     returns
     add-four
     four-requires
+    add-wide
+    shared-slice-read-wide
+    wide-requires
     add-eight
     eight-requires
     add-four-2
     four-requires-2
     add-t7
-    shared-slice-read-t10
-    add-t6
     returns-2)

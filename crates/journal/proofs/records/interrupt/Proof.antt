@@ -1,5 +1,6 @@
-use Rattle.journal.specs.Records.{interruptAt}
-use Rattle.journal.proofs.Parts.{full, cut-off}
+use mathlib.Core.Path.{refl}
+use Rattle.journal.specs.Layout.{carries}
+use Rattle.journal.proofs.Parts.{off, full, interrupt-kind}
 use native.Mathlib.Omega.{arith}
 use borrow.Author.Needs.{needs}
 use Rattle.journal.proofs.records.interrupt.Statement.{statement}
@@ -9,8 +10,7 @@ sub-if1 : tie.Need-sub-if1
 sub-if1 c = search needs
 
 returns : tie.Need-returns
-unfolding interruptAt
-returns c = cut-off _ _ _ _ (omega arith)
+returns c = off _ _ _ _ _ (interrupt-kind _ _) (omega arith) (omega arith)
 
 add-four : tie.Need-add-four
 add-four c = search needs
@@ -40,8 +40,12 @@ add-t7 : tie.Need-add-t7
 add-t7 c = search needs
 
 returns-2 : tie.Need-returns-2
-unfolding interruptAt
-returns-2 c = full _ _ _ _ _ (omega arith) (cc)
+unfolding carries
+returns-2 c =
+    let s : tie.Start = search in
+    let j = s .args .j .now in
+    let at = s .args .at in
+    full _ _ j at _ (interrupt-kind j at) _ _ (cc) refl (omega arith) (omega arith)
 
 pub interrupt-spec : {M : Type 1} → statement M
 interrupt-spec =

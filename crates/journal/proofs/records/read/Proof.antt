@@ -1,16 +1,13 @@
-use Rattle.ledger.specs.Choice.{pick}
 use mathlib.Core.Path.{refl, sym}
-use Rattle.journal.proofs.Parts.{other, known}
-use Rattle.journal.specs.Records.{readAt, recordAt}
-use borrow.Author.Tests.{le-ltb}
+use Rattle.journal.proofs.Cut.{past}
+use Rattle.journal.proofs.Parts.{of-kind, other}
 use native.Mathlib.Omega.{arith}
 use borrow.Author.Needs.{needs}
 use Rattle.journal.proofs.records.read.Statement.{statement}
 use Rattle.journal.proofs.records.read.Tie as tie
 
 returns : tie.Need-returns
-unfolding readAt pick
-returns c = rw (le-ltb _ _ (c .if1 .taken))
+returns c = sym (past _ _ _ (c .if1 .taken))
 
 shared-slice-read-match : tie.Need-shared-slice-read-match
 shared-slice-read-match c = search needs
@@ -34,31 +31,27 @@ blocking-read-requires : tie.Need-blocking-read-requires
 blocking-read-requires c κs = search needs
 
 returns-2 : tie.Need-returns-2
-unfolding recordAt
-returns-2 c = known _ _ 1 _ (omega arith) (c .before .match .keys1) (c .event .ensures)
+returns-2 c = of-kind _ _ 1 _ (omega arith) (search) (c .event .ensures)
 
 returns-3 : tie.Need-returns-3
-unfolding recordAt
-returns-3 c = known _ _ 2 _ (omega arith) (c .before .match .keys2) (c .interrupt .ensures)
+returns-3 c = of-kind _ _ 2 _ (omega arith) (search) (c .interrupt .ensures)
 
 returns-4 : tie.Need-returns-4
-unfolding recordAt
-returns-4 c = known _ _ 3 _ (omega arith) (c .before .match .keys3) (c .write .ensures)
+returns-4 c = of-kind _ _ 3 _ (omega arith) (search) (c .write .ensures)
 
 returns-5 : tie.Need-returns-5
-unfolding recordAt
-returns-5 c = known _ _ 4 _ (omega arith) (c .before .match .keys4) (c .seed .ensures)
+returns-5 c = of-kind _ _ 4 _ (omega arith) (search) (c .seed .ensures)
 
 returns-6 : tie.Need-returns-6
-unfolding recordAt
-returns-6 c = known _ _ 5 _ (omega arith) (c .before .match .keys5) (c .generator-read .ensures)
+returns-6 c = of-kind _ _ 5 _ (omega arith) (search) (c .generator-read .ensures)
 
 returns-7 : tie.Need-returns-7
-unfolding recordAt
-returns-7 c = known _ _ 6 _ (omega arith) (c .before .match .keys6) (c .blocking-read .ensures)
+returns-7 c = of-kind _ _ 6 _ (omega arith) (search) (c .blocking-read .ensures)
 
 returns-8 : tie.Need-returns-8
-returns-8 c = let n = c .match .rest in known _ _ _ _ (omega arith) refl (sym (other _ _ _ (n .0 .0 .0 .0 .0 .1) (n .0 .0 .0 .0 .1) (n .0 .0 .0 .1) (n .0 .0 .1) (n .0 .1) (n .1)))
+returns-8 c =
+    let n = c .match .rest in
+    of-kind _ _ _ _ (omega arith) refl (other _ _ _ (n .0 .0 .0 .0 .0 .1) (n .0 .0 .0 .0 .1) (n .0 .0 .0 .1) (n .0 .0 .1) (n .0 .1) (n .1))
 
 pub read-spec : {M : Type 1} → statement M
 read-spec =

@@ -1,5 +1,5 @@
-use Rattle.journal.specs.Records.{seedAt}
-use Rattle.journal.proofs.Parts.{full, cut-off}
+use Rattle.journal.specs.Layout.{carries}
+use Rattle.journal.proofs.Parts.{off, carried, seed-kind}
 use native.Mathlib.Omega.{arith}
 use borrow.Author.Needs.{needs}
 use Rattle.journal.proofs.records.seed.Statement.{statement}
@@ -9,8 +9,7 @@ sub-if1 : tie.Need-sub-if1
 sub-if1 c = search needs
 
 returns : tie.Need-returns
-unfolding seedAt
-returns c = cut-off _ _ _ _ (omega arith)
+returns c = off _ _ _ _ _ (seed-kind _ _) (omega arith) (omega arith)
 
 add-four : tie.Need-add-four
 add-four c = search needs
@@ -33,15 +32,19 @@ add-four-2 c = search needs
 four-requires-2 : tie.Need-four-requires-2
 four-requires-2 c κs = search needs
 
-add-start : tie.Need-add-start
-add-start c = search needs
+add-carry : tie.Need-add-carry
+add-carry c = search needs
 
 carry-requires : tie.Need-carry-requires
+unfolding carries
 carry-requires c κs = search needs
 
 returns-2 : tie.Need-returns-2
-unfolding seedAt
-returns-2 c = full _ _ _ _ _ (omega arith) (cc)
+returns-2 c =
+    let s : tie.Start = search in
+    let j = s .args .j .now in
+    let at = s .args .at in
+    carried _ _ j at _ (seed-kind j at) _ _ _ (cc) (omega arith) (omega arith) (c .carry .ensures)
 
 pub seed-spec : {M : Type 1} → statement M
 seed-spec =
@@ -56,6 +59,6 @@ seed-spec =
     cast-len
     add-four-2
     four-requires-2
-    add-start
+    add-carry
     carry-requires
     returns-2)

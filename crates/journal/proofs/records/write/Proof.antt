@@ -1,5 +1,5 @@
-use Rattle.journal.specs.Records.{writeAt}
-use Rattle.journal.proofs.Parts.{full, cut-off}
+use Rattle.journal.specs.Layout.{carries}
+use Rattle.journal.proofs.Parts.{off, carried, write-kind}
 use native.Mathlib.Omega.{arith}
 use borrow.Author.Needs.{needs}
 use Rattle.journal.proofs.records.write.Statement.{statement}
@@ -9,8 +9,7 @@ sub-if1 : tie.Need-sub-if1
 sub-if1 c = search needs
 
 returns : tie.Need-returns
-unfolding writeAt
-returns c = cut-off _ _ _ _ (omega arith)
+returns c = off _ _ _ _ _ (write-kind _ _) (omega arith) (omega arith)
 
 add-four : tie.Need-add-four
 add-four c = search needs
@@ -27,15 +26,19 @@ two-requires c κs = search needs
 cast-len : tie.Need-cast-len
 cast-len c = search needs
 
-add-start : tie.Need-add-start
-add-start c = search needs
+add-carry : tie.Need-add-carry
+add-carry c = search needs
 
 carry-requires : tie.Need-carry-requires
+unfolding carries
 carry-requires c κs = search needs
 
 returns-2 : tie.Need-returns-2
-unfolding writeAt
-returns-2 c = full _ _ _ _ _ (omega arith) (cc)
+returns-2 c =
+    let s : tie.Start = search in
+    let j = s .args .j .now in
+    let at = s .args .at in
+    carried _ _ j at _ (write-kind j at) _ _ _ (cc) (omega arith) (omega arith) (c .carry .ensures)
 
 pub write-spec : {M : Type 1} → statement M
 write-spec =
@@ -48,6 +51,6 @@ write-spec =
     add-two
     two-requires
     cast-len
-    add-start
+    add-carry
     carry-requires
     returns-2)

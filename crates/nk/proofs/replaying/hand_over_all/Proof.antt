@@ -1,10 +1,11 @@
-use mathlib.Core.Path.{sym, _∙_}
+use mathlib.Core.Path.{sym, ap, _∙_}
 use mathlib.Core.List.{[], _∷_}
 use Prim.Native.Nat.{_-_}
 use types.Run.{miss}
 use lib.ListN.{length}
 use lib.Seq.{length-take-le}
 use borrow.Author.Tests.{not-false, not-true}
+use Rattle.journal.specs.declared.heading.Heading.{Heading}
 use Rattle.steps.specs.Promise.{keeperOf}
 use Rattle.nk.proofs.Texts.{Told, told-none, in-room, next-text, goes-on, told-more, told-all}
 use borrow.Author.Needs.{needs}
@@ -13,11 +14,11 @@ use Rattle.nk.proofs.replaying.hand_over_all.Statement.{statement}
 use Rattle.nk.proofs.replaying.hand_over_all.Tie as tie
 
 abbrev Inv-loop : tie.InvT-loop
-Inv-loop j done₀ refused clocks₀ firsts₀ seconds₀ input₀ blocking₀ fast₀ generator₀ l₀ at₀ room₀ done clocks firsts seconds input blocking fast generator l at room =
+Inv-loop j done₀ clocks₀ firsts₀ seconds₀ input₀ blocking₀ fast₀ generator₀ l₀ at₀ room₀ done clocks firsts seconds input blocking fast generator l at room =
     Told j done at (keeperOf l clocks firsts seconds input blocking fast generator)
 
 abbrev μ-loop : tie.MeasureT-loop
-μ-loop j done₀ refused clocks₀ firsts₀ seconds₀ input₀ blocking₀ fast₀ generator₀ l₀ at₀ room₀ done clocks firsts seconds input blocking fast generator l at room =
+μ-loop j done₀ clocks₀ firsts₀ seconds₀ input₀ blocking₀ fast₀ generator₀ l₀ at₀ room₀ done clocks firsts seconds input blocking fast generator l at room =
     length j - at
 
 header-requires : tie.Need-header-requires Inv-loop μ-loop
@@ -28,9 +29,9 @@ refuse-requires c κs =
     let c : tie.Then1 Inv-loop μ-loop = search in
     let wrong = c .if1 .taken in
     let c : tie.After-header Inv-loop μ-loop = search in
-    let number = c .header .ensures in
+    let said = c .header .ensures in
     let c : tie.Start Inv-loop μ-loop = search in
-    (c .pre, (number, wrong))
+    (c .pre, (ap (λ (h : Heading). h .number) said, wrong))
 
 returns : tie.Need-returns Inv-loop μ-loop
 returns c = λ e. c .refuse .ensures
@@ -53,9 +54,9 @@ loop-holds c =
     let c : tie.Else1 Inv-loop μ-loop = search in
     let good = c .if1 .left in
     let c : tie.After-header Inv-loop μ-loop = search in
-    let number = c .header .ensures in
+    let said = c .header .ensures in
     let c : tie.Start Inv-loop μ-loop = search in
-    told-none _ _ _ _ _ _ _ (c .pre) number good start made
+    told-none _ _ _ _ _ _ _ (c .pre) said good start made
 
 fill-room-requires : tie.Need-fill-room-requires Inv-loop μ-loop
 fill-room-requires c κs = search needs

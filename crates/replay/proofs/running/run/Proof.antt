@@ -10,9 +10,6 @@ use Rattle.replay.proofs.running.run.Tie as tie
 enum-known-it : tie.Need-enum-known-it
 enum-known-it c = search needs
 
-cast-event-on : tie.Need-cast-event-on
-cast-event-on c = search needs
-
 event-on-requires : tie.Need-event-on-requires
 event-on-requires c κs = search needs
 
@@ -55,12 +52,12 @@ blocking-read-into-requires c κs = search needs
 returns : tie.Need-returns
 returns c =
     let a = c .before .before .before .before .before .before .before .before .before .before .before .args in
-    called _ _ _ _ _ _ _ (call-event _ _ _ _ _ _ (c .before .before .before .before .before .before .before .it .given .1)) (quiet _ _ _ _ (a .out .now) (c .event-on .ensures (a .blocking .now) (a .fast .now)))
+    called _ _ _ _ _ _ _ (call-event _ _ _ _ _ _ _ (c .before .before .before .before .before .before .before .it .given .1)) (quiet _ _ _ _ (a .out .now) (c .event-on .ensures (a .blocking .now) (a .fast .now)))
 
 returns-2 : tie.Need-returns-2
 returns-2 c =
     let a = c .before .before .before .before .before .before .before .before .before .before .before .args in
-    called _ _ _ _ _ _ _ (call-interrupt _ _ _ _ _ _ (c .before .before .before .before .before .before .before .it2 .given .1)) (quiet _ _ _ _ (a .out .now) (c .interrupt-on .ensures (a .clocks .now) (a .blocking .now)))
+    called _ _ _ _ _ _ _ (call-interrupt _ _ _ _ _ _ _ (c .before .before .before .before .before .before .before .it2 .given .1)) (quiet _ _ _ _ (a .out .now) (c .interrupt-on .ensures (a .clocks .now) (a .blocking .now)))
 
 returns-3 : tie.Need-returns-3
 returns-3 c =
@@ -80,7 +77,7 @@ same-length c = search needs
 returns-5 : tie.Need-returns-5
 returns-5 c =
     let a = c .before .before .before .before .before .before .before .before .before .before .before .before .before .args in
-    called _ _ _ _ _ _ _ (call-read _ _ _ _ (c .before .before .before .before .before .before .before .before .before .it5 .given .1)) (c .before .before .read-into .ensures (a .clocks .now) (a .blocking .now) (a .fast .now))
+    called _ _ _ _ _ _ _ (call-read _ _ _ _ _ (c .before .before .before .before .before .before .before .before .before .it5 .given .1)) (c .before .before .read-into .ensures (a .clocks .now) (a .blocking .now) (a .fast .now))
 
 same-length-2 : tie.Need-same-length-2
 same-length-2 c = search needs
@@ -88,14 +85,13 @@ same-length-2 c = search needs
 returns-6 : tie.Need-returns-6
 returns-6 c =
     let a = c .before .before .before .before .before .before .before .before .before .before .before .before .before .before .args in
-    called _ _ _ _ _ _ _ (call-blocking _ _ _ _ (c .before .before .before .before .before .before .before .before .before .before .it6 .given .1)) (c .before .before .blocking-read-into .ensures (a .clocks .now) (a .fast .now))
+    called _ _ _ _ _ _ _ (call-blocking _ _ _ _ _ (c .before .before .before .before .before .before .before .before .before .before .it6 .given .1)) (c .before .before .blocking-read-into .ensures (a .clocks .now) (a .fast .now))
 
 pub run-spec : {M : Type 1} → statement M
 run-spec =
     tie.close
     (tie.spec
     enum-known-it
-    cast-event-on
     event-on-requires
     enum-known-it-2
     interrupt-on-requires

@@ -1,0 +1,53 @@
+-- APPENDING: a journal that ends with 0 goes on where it ended.
+use mathlib.Core.Path.{_≡_, refl, sym, ap, _∙_}
+use mathlib.Core.Bool.{Bool, true, false}
+use mathlib.Core.List.{List, _++_}
+use Prim.Native.Nat.{ℕ, _≤_}
+use native.Mathlib.Omega.{arith}
+use borrow.Author.Tests.{eqb-true, eqb-false}
+use lib.Dec.{eqb}
+use lib.ListN.{length}
+use Rattle.journal.specs.Header.{largest, recordsBegin, headerOf}
+use Rattle.journal.specs.Walking.{entry, Walk, onto, walk, walkOf, endingOf}
+use Rattle.journal.specs.Writing.{joined}
+use Rattle.journal.specs.declared.heading.Heading.{Heading}
+use Rattle.journal.proofs.Onward.{read-ahead, stop-not-0, end-past}
+use Rattle.journal.proofs.Told.{read-on}
+use Rattle.journal.proofs.Walks.{along, walk-one, walk-stop, walk-end, good-walk, bad-walk}
+use Rattle.journal.proofs.GoodHeader.{header-good, good-header, good-longer}
+
+abbrev number : Walk → ℕ
+number w = w .number
+
+module _ (v : ℕ) (j more : List ℕ) where
+  -- a walk that ends with 0 goes on at the journal's end
+  pub appended : (at : ℕ) → at ≤ length j → walk v j at .number ≡ 0 → walk v (j ++ more) at ≡ joined (walk v j at) (walk v (j ++ more) (length j))
+  appended =
+      along v j (λ at. at ≤ length j → walk v j at .number ≡ 0 → walk v (j ++ more) at ≡ joined (walk v j at) (walk v (j ++ more) (length j)))
+      (λ at r next e on h z.
+      let w = walk-one v j at r next e in
+      walk-one v (j ++ more) at r next (read-on v j more at r next e)
+      ∙ ap (onto (entry at r next)) (on (read-ahead v j at r next e .1) (sym (ap number w) ∙ z))
+      ∙ sym (ap (λ (x : Walk). joined x (walk v (j ++ more) (length j))) w))
+      (λ at n e h z. absurd (stop-not-0 v j at n e (sym (ap number (walk-stop v j at n e)) ∙ z)))
+      (λ at e h z.
+      let l = end-past v j at e in
+      let q : at ≡ length j = omega (arith, h, l) in
+      ap (walk v (j ++ more)) q ∙ sym (ap (λ (x : Walk). joined x (walk v (j ++ more) (length j))) (walk-end v j at e)))
+
+-- a journal that ends with 0 has a good header
+pub ends-well : (j : List ℕ) → endingOf j ≡ 0 → headerOf j .number ≡ 0
+ends-well j e = by (eqb (headerOf j .number) 0) refl
+  where
+    by : (b : Bool) → eqb (headerOf j .number) 0 ≡ b → headerOf j .number ≡ 0
+    by true q = eqb-true (headerOf j .number) 0 q
+    by false q = let h = eqb-false (headerOf j .number) 0 q in absurd (h (sym (ap number (bad-walk j h)) ∙ e))
+
+-- THE APPENDING, of whole journals
+pub append-journal : (j more : List ℕ) → endingOf j ≡ 0 → length (j ++ more) ≤ largest → walkOf (j ++ more) ≡ joined (walkOf j) (walk 1 (j ++ more) (length j))
+append-journal j more e l =
+    let h = ends-well j e in
+    let g = header-good j h in
+    let w = good-walk j h in
+    let k = ap (λ (x : Heading). x .number) (good-header (j ++ more) (good-longer j more l g)) in
+    good-walk (j ++ more) k ∙ appended 1 j more recordsBegin (g .there) (sym (ap number w) ∙ e) ∙ sym (ap (λ (x : Walk). joined x (walk 1 (j ++ more) (length j))) w)
