@@ -18,7 +18,7 @@ use Rattle.journal.proofs.Laws.{start-48}
 use Rattle.transcript.specs.Lines.{Written, endOf, endIn, atStart}
 use Rattle.keeper.specs.Record.{Outcome, fresh}
 use Rattle.keeper.specs.declared.Keeper.{Keeper}
-use Rattle.keeper.specs.declared.Answer.{Answer}
+use Rattle.ledger.specs.declared.Answer.{Answer}
 use Rattle.keeper.proofs.Refusals.{making-48}
 use Rattle.steps.specs.Promise.{Left, left, leavesMade}
 use Rattle.replay.specs.Turns.{turnOf}

@@ -15,7 +15,6 @@ use Rattle.journal.specs.declared.records.Found.{Found}
 use Rattle.journal.specs.declared.records.Found.the-variants.{One, Stop, End}
 use Rattle.journal.proofs.Onward.{read-ahead}
 use Rattle.transcript.proofs.Laws.{longest as longest-line, longest-end}
-use Rattle.ledger.specs.Marks.{inputCount, blockingCount}
 use Rattle.keeper.specs.Narrative.{told}
 use Rattle.keeper.specs.Record.{fresh}
 use Rattle.keeper.specs.declared.Keeper.{Keeper}
@@ -37,7 +36,7 @@ short-after : (j : List ℕ) (at : ℕ) (k : Keeper) (f : Found) → length ((af
 unfolding after lineFor
 short-after j at k (One r next) =
     let o = told k (callOf j (entry at r next)) in
-    most _ (length (o .bytes)) (longest-line (o .answer) (inputCount (o .keeper .ledger)) (blockingCount (o .keeper .ledger)) (o .bytes)) (few k (callOf j (entry at r next)))
+    most _ (length (o .bytes)) (longest-line (o .answer) (o .keeper .ledger .input .count) (o .keeper .ledger .blocking .count) (o .bytes)) (few k (callOf j (entry at r next)))
 short-after j at k (Stop n) = last _ (longest-end n)
 short-after j at k End = last _ (longest-end 0)
 

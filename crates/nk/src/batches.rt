@@ -1,8 +1,13 @@
 // A journal run for as many records as a room has place for the lines of.
-ghost use Rattle.steps.specs.Promise.{keeperOf};
+ghost use Rattle.steps.specs.Promise.{lent};
 ghost use Rattle.nk.specs.Batches.{batchOf, Laid};
 use crate::output::lay;
 use ledger::Ledger;
+use ledger::sizes::BLOCKING_WORDS;
+use ledger::sizes::DEVICES;
+use ledger::sizes::FAST_WORDS;
+use ledger::sizes::GENERATOR_WORDS;
+use ledger::sizes::INPUT_WORDS;
 use replay::OUT_ROOM;
 use replay::take_turn;
 use transcript::LONGEST_LINE;
@@ -26,16 +31,16 @@ pub fn fill_room(
     j: &[u8],
     at: usize,
     l: Ledger,
-    clocks: &mut [u32; 16],
-    firsts: &mut [i64; 16],
-    seconds: &mut [i64; 16],
-    input: &mut [u32; 128],
-    blocking: &mut [u32; 32],
-    fast: &mut [u32; 4],
-    generator: &mut [u32; 16],
+    clocks: &mut [u32; DEVICES],
+    firsts: &mut [i64; DEVICES],
+    seconds: &mut [i64; DEVICES],
+    input: &mut [u32; INPUT_WORDS],
+    blocking: &mut [u32; BLOCKING_WORDS],
+    fast: &mut [u32; FAST_WORDS],
+    generator: &mut [u32; GENERATOR_WORDS],
     room: &mut [u8; 65536],
 ) -> Batch
-    ensures { λ r. ⌜ Laid (batchOf (now (j .entry)) at (keeperOf l (now (clocks .entry)) (now (firsts .entry)) (now (seconds .entry)) (now (input .entry)) (now (blocking .entry)) (now (fast .entry)) (now (generator .entry)))) (keeperOf (r .ledger) (now (clocks .exit)) (now (firsts .exit)) (now (seconds .exit)) (now (input .exit)) (now (blocking .exit)) (now (fast .exit)) (now (generator .exit))) r (now (room .entry)) (now (room .exit)) ⌝ }
+    ensures { λ r. let k = lent l (r .ledger) clocks firsts seconds input blocking fast generator in ⌜ Laid (batchOf (now (j .entry)) at (k .entry)) (k .exit) r (now (room .entry)) (now (room .exit)) ⌝ }
 {
     let mut out = [0u8; OUT_ROOM];
     let mut line = [0u8; LONGEST_LINE];

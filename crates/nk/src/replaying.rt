@@ -10,27 +10,10 @@ use crate::output::Sent;
 use crate::output::write;
 use journal::header;
 use journal::payload;
-use ledger::Ledger;
-use ledger::Spot;
 use ledger::sizes::START_BYTES;
+use steps::fresh_ledger;
 use steps::make_on;
 use transcript::ending;
-
-// A ledger to make a keeper in.
-fn blank_ledger() -> Ledger {
-    let s = Spot { at: 0, turn: 0 };
-    Ledger {
-        input_count: 0,
-        blocking_count: 0,
-        input_spot: s,
-        blocking_spot: s,
-        last_value: 0,
-        tally: 0,
-        last_spill: 0,
-        seeded: 0,
-        seeding_clock: 0,
-    }
-}
 
 // Hands the text of the transcript that comes next to standard output, and counts it. The journal is here for the contract, which says
 // that these bytes are that text. The count is moved here alone: if a text were left out or handed over twice, the next one would not be
@@ -72,7 +55,7 @@ fn hand_over_all(j: &[u8], done: &mut usize) -> Sent
     let mut fast = [0u32; 4];
     let mut generator = [0u32; 16];
     let made = make_on(
-        blank_ledger(),
+        fresh_ledger(),
         &mut clocks,
         &mut firsts,
         &mut seconds,

@@ -12,16 +12,16 @@ use Rattle.ledger.specs.Sizes.{longest}
 use Rattle.ledger.specs.Choice.{pick}
 use Rattle.ledger.specs.Shapes.{blockingShape}
 use Rattle.ledger.specs.Credits.{taken}
-use Rattle.ledger.specs.Marks.{blockingCount, isSeeded, reseedDue, blocks}
+use Rattle.ledger.specs.Marks.{isSeeded, reseedDue, isLow}
 use Rattle.ledger.proofs.Picks.{pick-both, pick-by}
 use Rattle.ledger.proofs.Crediting.{taken-wanted}
-use Rattle.pool.proofs.Extracted.{extract-length}
+use Rattle.pool.proofs.Extracted.{laws}
 use Rattle.keeper.specs.Generator.{stream, generated}
-use Rattle.keeper.specs.Record.{Outcome, refused, roomAfter}
+use Rattle.keeper.specs.Record.{Outcome, refused, roomAfter, Run, finished}
 use Rattle.keeper.specs.Calls.{Call, deviceEvent, interrupted, written, seededWith, generatorRead, blockingReadOf}
-use Rattle.keeper.specs.Narrative.{Run, finished, eventCall, interruptCall, writeCall, seedCall, generate, readCall, transfer, deliver, blockingCall, act, told}
+use Rattle.keeper.specs.Narrative.{eventCall, interruptCall, writeCall, seedCall, generate, readCall, transfer, deliver, blockingCall, act, told}
 use Rattle.keeper.specs.declared.Keeper.{Keeper}
-use Rattle.keeper.specs.declared.Answer.{Answer}
+use Rattle.ledger.specs.declared.Answer.{Answer}
 use Rattle.keeper.proofs.Refusals.{delivered}
 use Rattle.steps.specs.Promise.{Left, left, over, leaves}
 
@@ -45,8 +45,8 @@ made-few len w h = record { few = under len _ h }
 delivered-few : (n : ℕ) (w : Run) → n ≤ longest → Few (deliver n w)
 unfolding deliver
 delivered-few n w h =
-    let t = taken-wanted n 0 (blockingCount (w .0 .ledger)) in
-    record { few = as-many _ _ (extract-length blockingShape (taken n 0 (blockingCount (w .0 .ledger))) _) (omega (arith, t, h)) }
+    let t = taken-wanted n 0 (w .0 .ledger .blocking .count) in
+    record { few = as-many _ _ ((laws blockingShape) .take-length (taken n 0 (w .0 .ledger .blocking .count)) _) (omega (arith, t, h)) }
 
 act-few : (k : Keeper) (c : Call) → Few (act k c)
 unfolding act eventCall interruptCall writeCall seedCall readCall blockingCall

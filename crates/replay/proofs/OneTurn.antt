@@ -10,12 +10,13 @@ use Rattle.journal.specs.Reading.{readAt}
 use Rattle.journal.specs.Walking.{entry}
 use Rattle.journal.specs.declared.records.Record.{Record}
 use Rattle.journal.specs.declared.records.Found.the-variants.{One, Stop, End}
-use Rattle.transcript.specs.Lines.{Written, lineOf, lineIn, endOf, endIn, atStart}
-use Rattle.ledger.specs.Marks.{inputCount, blockingCount}
+use Rattle.ledger.specs.Choice.{pick}
+use Rattle.ledger.specs.Sizes.{longest}
+use Rattle.transcript.specs.Lines.{Written, lineOf, lineIn, endOf, endIn, atStart, longestLine, longestEnd}
 use Rattle.keeper.specs.Record.{roomAfter}
 use Rattle.keeper.specs.Narrative.{told}
 use Rattle.keeper.specs.declared.Keeper.{Keeper}
-use Rattle.keeper.specs.declared.Answer.{Answer}
+use Rattle.ledger.specs.declared.Answer.{Answer}
 use Rattle.steps.specs.Promise.{Left, left, leaves}
 use Rattle.replay.specs.Running.{callOf, lineFor}
 use Rattle.replay.specs.Turns.{after, turnOf, Took}
@@ -26,14 +27,14 @@ wrote : (room b t : List ℕ) (n : ℕ) → _≡_ {A = Written} (record { count 
 unfolding atStart
 wrote room b t n h = (ap (λ (w : Written). w .count) h, ap (λ (w : Written). w .room) h)
 
-ended : (room b : List ℕ) (n number : ℕ) → 8259 ≤ length room → _≡_ {A = Written} (record { count = n; room = b }) (endIn room number)
+ended : (room b : List ℕ) (n number : ℕ) → longestLine longest ≤ length room → _≡_ {A = Written} (record { count = n; room = b }) (endIn room number)
     → (n ≡ length (endOf number)) × (b ≡ endOf number ++ drop (length (endOf number)) room)
-unfolding endIn
+unfolding endIn pick
 ended room b n number big h =
-    let g : 15 ≤ length room = omega arith in
-    wrote room b (endOf number) n (rw (le-leb 15 (length room) g) at h)
+    let g : longestEnd ≤ length room = omega arith in
+    wrote room b (endOf number) n (rw (le-leb longestEnd (length room) g) at h)
 
-module _ (j : List ℕ) (at : ℕ) (k : Keeper) (room room′ : List ℕ) (n : ℕ) (big : 8259 ≤ length room) where
+module _ (j : List ℕ) (at : ℕ) (k : Keeper) (room room′ : List ℕ) (n : ℕ) (big : longestLine longest ≤ length room) where
   pub at-stop : (number : ℕ) (out : List ℕ) → readAt 1 j at ≡ Stop number → _≡_ {A = Written} (record { count = n; room = room′ }) (endIn room number)
       → Took (turnOf j at k) k (record { ledger = k .ledger; at = at; more = false; count = n }) out out room room′
   unfolding turnOf after
@@ -50,9 +51,9 @@ module _ (j : List ℕ) (at : ℕ) (k : Keeper) (room room′ : List ℕ) (n : �
 
   pub at-one : (r : Record) (next : ℕ) (k′ : Keeper) (a : Answer) (out out′ : List ℕ) → readAt 1 j at ≡ One r next
       → left k′ a out′ ≡ leaves k (callOf j (entry at r next)) out
-      → _≡_ {A = Written} (record { count = n; room = room′ }) (lineIn room a (inputCount (k′ .ledger)) (blockingCount (k′ .ledger)) (take (a .delivered) out′))
+      → _≡_ {A = Written} (record { count = n; room = room′ }) (lineIn room a (k′ .ledger .input .count) (k′ .ledger .blocking .count) (take (a .delivered) out′))
       → Took (turnOf j at k) k′ (record { ledger = k′ .ledger; at = next; more = true; count = n }) out out′ room room′
-  unfolding turnOf after lineIn lineFor leaves
+  unfolding turnOf after lineIn lineFor leaves pick
   at-one r next k′ a out out′ e l h =
       let c = callOf j (entry at r next) in
       let o = told k c in
@@ -61,10 +62,10 @@ module _ (j : List ℕ) (at : ℕ) (k : Keeper) (room room′ : List ℕ) (n : �
       let er : out′ ≡ roomAfter out (o .bytes) = ap (λ (x : Left). x .room) l in
       let f = front k k′ c a out out′ l in
       let m = few k c in
-      let g : 67 + 2 * length (take (a .delivered) out′) ≤ length room = omega (arith, ap length (f .bytes)) in
-      let w = wrote room room′ _ n (rw (le-leb (67 + 2 * length (take (a .delivered) out′)) (length room) g) at h) in
-      let same : lineOf a (inputCount (k′ .ledger)) (blockingCount (k′ .ledger)) (take (a .delivered) out′) ≡ lineFor o =
-      λ i. lineOf (ea i) (inputCount ((ek i) .ledger)) (blockingCount ((ek i) .ledger)) (f .bytes i) in
+      let g : longestLine (length (take (a .delivered) out′)) ≤ length room = omega (arith, ap length (f .bytes)) in
+      let w = wrote room room′ _ n (rw (le-leb (longestLine (length (take (a .delivered) out′))) (length room) g) at h) in
+      let same : lineOf a (k′ .ledger .input .count) (k′ .ledger .blocking .count) (take (a .delivered) out′) ≡ lineFor o =
+      λ i. lineOf (ea i) ((ek i) .ledger .input .count) ((ek i) .ledger .blocking .count) (f .bytes i) in
       rw e
       (record {
         keeper = ek;

@@ -1,15 +1,14 @@
 -- Demand 3 for journals: two journals whose records have the same kinds and the same public fields, and which end with the same number, have
 -- one transcript but for the hex.
 use mathlib.Core.Path.{_≡_, refl, sym, ap, _∙_}
-use mathlib.Core.Bool.{Bool, true, false, cond}
-use mathlib.Core.List.{List, [], _∷_, _++_, map, append-assoc}
+use mathlib.Core.Bool.{Bool, true, false}
+use mathlib.Core.List.{List, [], _∷_, _++_, map, append-assoc, head-eq-of-cons-eq, tail-eq-of-cons-eq}
 use Prim.Native.Nat.{ℕ, zero, suc, _+_, _-_, _/_, _%_, _≤_}
 use native.Mathlib.Omega.{arith}
 use borrow.Author.Tests.{ne-eqb}
 use lib.Dec.{ltb}
 use lib.ListN.{length, replicate}
 use Rattle.ledger.specs.Choice.{pick}
-use Rattle.ledger.specs.Marks.{inputCount, blockingCount}
 use Rattle.journal.specs.Header.{headerOf, startOf}
 use Rattle.journal.specs.Walking.{endingOf}
 use Rattle.journal.proofs.Laws.{start-48}
@@ -19,9 +18,11 @@ use Rattle.transcript.proofs.Laws.{length-hex}
 use Rattle.keeper.specs.Record.{Outcome, fresh}
 use Rattle.keeper.specs.Calls.{Call, public}
 use Rattle.keeper.specs.Narrative.{told}
-use Rattle.keeper.specs.Demands.{Alike, AllAlike, none, also, outcomes}
+use Rattle.keeper.specs.Demands.{shown, Alike, outcomes}
 use Rattle.keeper.specs.declared.Keeper.{Keeper}
-use Rattle.keeper.specs.declared.Answer.{Answer}
+use Rattle.ledger.specs.Machine.{Shown}
+use Rattle.ledger.specs.declared.Answer.{Answer}
+use Rattle.ledger.proofs.Picks.{pick-both}
 use Rattle.keeper.proofs.Refusals.{delivered}
 use Rattle.keeper.proofs.Blind.{demand-3}
 use Rattle.replay.specs.Running.{lineFor}
@@ -32,10 +33,6 @@ data Digits : List ℕ → Type 0 where
   no-digit : Digits []
   digit : {b : ℕ} {text : List ℕ} → 48 ≤ b → Digits text → Digits (b ∷ text)
 
-either-digits : (b : Bool) (s t : List ℕ) → Digits s → Digits t → Digits (cond b s t)
-either-digits true s t p q = p
-either-digits false s t p q = q
-
 behind-digits : (s t : List ℕ) → Digits s → Digits t → Digits (s ++ t)
 behind-digits [] t no-digit q = q
 behind-digits (b ∷ s) t (digit h p) q = digit h (behind-digits s t p q)
@@ -44,11 +41,10 @@ decimal-digits : (k n : ℕ) → Digits (digits k n)
 unfolding digits
 decimal-digits zero n = no-digit
 decimal-digits (suc k) n =
-    either-digits (ltb n 10) _ _ (digit (omega arith) no-digit) (behind-digits _ _ (decimal-digits k (n / 10)) (digit (omega arith) no-digit))
+    pick-both Digits (ltb n 10) (digit (omega arith) no-digit) (behind-digits _ _ (decimal-digits k (n / 10)) (digit (omega arith) no-digit))
 
-a-glyph : (b : Bool) (d : ℕ) → 48 ≤ cond b (48 + d) (87 + d)
-a-glyph true d = omega arith
-a-glyph false d = omega arith
+a-glyph : (b : Bool) (d : ℕ) → 48 ≤ pick b (48 + d) (87 + d)
+a-glyph b d = pick-both (λ (n : ℕ). 48 ≤ n) b (omega arith) (omega arith)
 
 hex-digits : (bytes : List ℕ) → Digits (hexOf bytes)
 unfolding hexOf glyphOf
@@ -118,20 +114,23 @@ unfolding outcomes
 counted k [] = no-call
 counted k (c ∷ cs) = a-call (delivered k c) (counted ((told k c) .keeper) cs)
 
-alike-line : (o p : Outcome) (t u : List ℕ) → Alike o p → o .answer .delivered ≡ length (o .bytes) → p .answer .delivered ≡ length (p .bytes)
+alike-line : (o p : Outcome) (t u : List ℕ) → shown o ≡ shown p → o .answer .delivered ≡ length (o .bytes) → p .answer .delivered ≡ length (p .bytes)
     → blotted t ≡ blotted u → blotted (lineFor o ++ t) ≡ blotted (lineFor p ++ u)
 unfolding lineFor
 alike-line o p t u a h g e =
-    let n = tail-long (o .bytes) (p .bytes) (sym h ∙ ap (λ (x : Answer). x .delivered) (a .answer) ∙ g) in
-    line-blotted (o .answer) (inputCount (o .keeper .ledger)) (blockingCount (o .keeper .ledger)) (o .bytes) t
-    ∙ (λ i. blottedLine (a .answer i) (inputCount (a .ledger i)) (blockingCount (a .ledger i)) (n i) (e i))
-    ∙ sym (line-blotted (p .answer) (inputCount (p .keeper .ledger)) (blockingCount (p .keeper .ledger)) (p .bytes) u)
+    let n = tail-long (o .bytes) (p .bytes) (sym h ∙ ap (λ (x : Shown). x .answer .delivered) a ∙ g) in
+    line-blotted (o .answer) (o .keeper .ledger .input .count) (o .keeper .ledger .blocking .count) (o .bytes) t
+    ∙ (λ i. blottedLine ((a i) .answer) ((a i) .view .ledger .input .count) ((a i) .view .ledger .blocking .count) (n i) (e i))
+    ∙ sym (line-blotted (p .answer) (p .keeper .ledger .input .count) (p .keeper .ledger .blocking .count) (p .bytes) u)
 
-alike-lines : (os ps : List Outcome) (t : List ℕ) → Counted os → Counted ps → AllAlike os ps → blotted (linesOf os ++ t) ≡ blotted (linesOf ps ++ t)
+alike-lines : (os ps : List Outcome) (t : List ℕ) → Counted os → Counted ps → Alike os ps → blotted (linesOf os ++ t) ≡ blotted (linesOf ps ++ t)
 unfolding linesOf
-alike-lines [] [] t c d none = refl
-alike-lines (o ∷ os) (p ∷ ps) t (a-call h c) (a-call g d) (also a r) =
-    ap blotted (append-assoc (lineFor o) (linesOf os) t) ∙ alike-line o p _ _ a h g (alike-lines os ps t c d r)
+alike-lines [] [] t c d e = refl
+alike-lines [] (p ∷ ps) t c d e = absurd (let z : _≡_ {A = ℕ} 0 1 = cc in omega arith)
+alike-lines (o ∷ os) [] t c d e = absurd (let z : _≡_ {A = ℕ} 0 1 = cc in omega arith)
+alike-lines (o ∷ os) (p ∷ ps) t (a-call h c) (a-call g d) e =
+    ap blotted (append-assoc (lineFor o) (linesOf os) t)
+    ∙ alike-line o p _ _ (head-eq-of-cons-eq e) h g (alike-lines os ps t c d (tail-eq-of-cons-eq e))
     ∙ ap blotted (sym (append-assoc (lineFor p) (linesOf ps) t))
 
 -- DEMAND 3

@@ -6,7 +6,6 @@ use Rattle.journal.specs.Walking.{Entry}
 use Rattle.journal.specs.declared.records.Record.{Record}
 use Rattle.journal.specs.declared.records.Record.the-variants.{Event, Interrupt, Write, Seed, Read, BlockingRead}
 use Rattle.transcript.specs.Lines.{lineOf}
-use Rattle.ledger.specs.Marks.{inputCount, blockingCount}
 use Rattle.keeper.specs.Record.{Outcome}
 use Rattle.keeper.specs.Calls.{Call, deviceEvent, interrupted, written, seededWith, generatorRead, blockingReadOf}
 
@@ -25,4 +24,4 @@ callOf j e = callWith (carriedBy j (e .what) (e .next)) (e .what)
 
 -- one line a record: the answer, then the counts as they are after it, then the bytes
 unfoldable pub lineFor : Outcome → List ℕ
-lineFor o = lineOf (o .answer) (inputCount (o .keeper .ledger)) (blockingCount (o .keeper .ledger)) (o .bytes)
+lineFor o = lineOf (o .answer) (o .keeper .ledger .input .count) (o .keeper .ledger .blocking .count) (o .bytes)

@@ -5,12 +5,17 @@ ghost use Prim.Native.Nat.{ℕ, _+_, min};
 ghost use lib.ListN.{length};
 ghost use Rattle.ledger.specs.Sizes.{longest};
 ghost use Rattle.keeper.specs.Calls.{generatorRead, blockingReadOf};
-ghost use Rattle.steps.specs.Promise.{keeperOf, left, leaves};
+ghost use Rattle.steps.specs.Promise.{Leaves, lent, still};
 ghost use Rattle.journal.specs.Writing.{carriedBy};
 ghost use Rattle.replay.specs.Running.{callWith};
 use journal::Record;
 use journal::payload;
 use ledger::Ledger;
+use ledger::sizes::BLOCKING_WORDS;
+use ledger::sizes::DEVICES;
+use ledger::sizes::FAST_WORDS;
+use ledger::sizes::GENERATOR_WORDS;
+use ledger::sizes::INPUT_WORDS;
 use ledger::sizes::LONGEST;
 use steps::Done;
 use steps::blocking_read_on;
@@ -33,16 +38,16 @@ fn room_for(len: u32) -> usize
 // A generator read of len bytes.
 fn read_into(
     l: Ledger,
-    firsts: &[i64; 16],
-    seconds: &[i64; 16],
-    input: &mut [u32; 128],
-    generator: &mut [u32; 16],
+    firsts: &[i64; DEVICES],
+    seconds: &[i64; DEVICES],
+    input: &mut [u32; INPUT_WORDS],
+    generator: &mut [u32; GENERATOR_WORDS],
     at: u32,
     out: &mut [u8],
     len: u32,
 ) -> Done
     requires { ⌜ length (now out) ≡ longest + 1 ⌝ }
-    ensures { λ r. ⌜ ((clocks blocking fast : List ℕ) → left (keeperOf (r .ledger) clocks (now (firsts .entry)) (now (seconds .entry)) (now (input .exit)) blocking fast (now (generator .exit))) (r .answer) (now (out .exit)) ≡ leaves (keeperOf l clocks (now (firsts .entry)) (now (seconds .entry)) (now (input .entry)) blocking fast (now (generator .entry))) (generatorRead at len) (now (out .entry))) ⌝ }
+    ensures { λ r. ⌜ ((clocks blocking fast : List ℕ) → Leaves (lent l (r .ledger) (still clocks) firsts seconds input (still blocking) (still fast) generator) (r .answer) (generatorRead at len) (now (out .entry)) (now (out .exit))) ⌝ }
 {
     let n = room_for(len);
     read_on(l, firsts, seconds, input, generator, at, &mut out[..n])
@@ -51,16 +56,16 @@ fn read_into(
 // A blocking read of len bytes.
 fn blocking_read_into(
     l: Ledger,
-    firsts: &[i64; 16],
-    seconds: &[i64; 16],
-    input: &mut [u32; 128],
-    blocking: &mut [u32; 32],
-    generator: &[u32; 16],
+    firsts: &[i64; DEVICES],
+    seconds: &[i64; DEVICES],
+    input: &mut [u32; INPUT_WORDS],
+    blocking: &mut [u32; BLOCKING_WORDS],
+    generator: &[u32; GENERATOR_WORDS],
     out: &mut [u8],
     len: u32,
 ) -> Done
     requires { ⌜ length (now out) ≡ longest + 1 ⌝ }
-    ensures { λ r. ⌜ ((clocks fast : List ℕ) → left (keeperOf (r .ledger) clocks (now (firsts .entry)) (now (seconds .entry)) (now (input .exit)) (now (blocking .exit)) fast (now (generator .entry))) (r .answer) (now (out .exit)) ≡ leaves (keeperOf l clocks (now (firsts .entry)) (now (seconds .entry)) (now (input .entry)) (now (blocking .entry)) fast (now (generator .entry))) (blockingReadOf len) (now (out .entry))) ⌝ }
+    ensures { λ r. ⌜ ((clocks fast : List ℕ) → Leaves (lent l (r .ledger) (still clocks) firsts seconds input blocking (still fast) generator) (r .answer) (blockingReadOf len) (now (out .entry)) (now (out .exit))) ⌝ }
 {
     let n = room_for(len);
     blocking_read_on(
@@ -80,17 +85,17 @@ pub fn run(
     it: Record,
     next: usize,
     l: Ledger,
-    clocks: &mut [u32; 16],
-    firsts: &mut [i64; 16],
-    seconds: &mut [i64; 16],
-    input: &mut [u32; 128],
-    blocking: &mut [u32; 32],
-    fast: &mut [u32; 4],
-    generator: &mut [u32; 16],
+    clocks: &mut [u32; DEVICES],
+    firsts: &mut [i64; DEVICES],
+    seconds: &mut [i64; DEVICES],
+    input: &mut [u32; INPUT_WORDS],
+    blocking: &mut [u32; BLOCKING_WORDS],
+    fast: &mut [u32; FAST_WORDS],
+    generator: &mut [u32; GENERATOR_WORDS],
     out: &mut [u8],
 ) -> Done
     requires { ⌜ length (now out) ≡ longest + 1 ⌝ }
-    ensures { λ r. ⌜ left (keeperOf (r .ledger) (now (clocks .exit)) (now (firsts .exit)) (now (seconds .exit)) (now (input .exit)) (now (blocking .exit)) (now (fast .exit)) (now (generator .exit))) (r .answer) (now (out .exit)) ≡ leaves (keeperOf l (now (clocks .entry)) (now (firsts .entry)) (now (seconds .entry)) (now (input .entry)) (now (blocking .entry)) (now (fast .entry)) (now (generator .entry))) (callWith (carriedBy (now (j .entry)) it next) it) (now (out .entry)) ⌝ }
+    ensures { λ r. ⌜ Leaves (lent l (r .ledger) clocks firsts seconds input blocking fast generator) (r .answer) (callWith (carriedBy (now (j .entry)) it next) it) (now (out .entry)) (now (out .exit)) ⌝ }
 {
     match it {
         Record::Event {

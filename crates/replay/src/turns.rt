@@ -2,16 +2,20 @@
 ghost use mathlib.Core.Path.{_≡_};
 ghost use Prim.Native.Nat.{_≤_};
 ghost use lib.ListN.{length, take};
-ghost use Rattle.ledger.specs.Marks.{inputCount, blockingCount};
 ghost use Rattle.transcript.specs.Lines.{lineIn};
-ghost use Rattle.steps.specs.Promise.{keeperOf};
+ghost use Rattle.steps.specs.Promise.{lent};
 ghost use Rattle.replay.specs.Turns.{turnOf, Took};
 use crate::running::OUT_ROOM;
 use crate::running::run;
 use journal::Found;
 use journal::read;
-use keeper::Answer;
+use ledger::Answer;
 use ledger::Ledger;
+use ledger::sizes::BLOCKING_WORDS;
+use ledger::sizes::DEVICES;
+use ledger::sizes::FAST_WORDS;
+use ledger::sizes::GENERATOR_WORDS;
+use ledger::sizes::INPUT_WORDS;
 use transcript::ending;
 use transcript::line;
 
@@ -26,10 +30,10 @@ pub struct Turn {
 // A line with so many of the bytes.
 fn line_with(a: Answer, l: Ledger, out: &[u8], n: u32, room: &mut [u8]) -> usize
     requires { ⌜ n ≤ length (now out) ⌝ }
-    ensures { λ r. ⌜ (record { count = r; room = now (room .exit) }) ≡ lineIn (now (room .entry)) a (inputCount l) (blockingCount l) (take n (now (out .entry))) ⌝ }
+    ensures { λ r. ⌜ (record { count = r; room = now (room .exit) }) ≡ lineIn (now (room .entry)) a (l .input .count) (l .blocking .count) (take n (now (out .entry))) ⌝ }
 {
     let k = n as usize;
-    line(a, l.input_count, l.blocking_count, &out[..k], room)
+    line(a, l.input.count, l.blocking.count, &out[..k], room)
 }
 
 // The record at a position, run, and its line; or the last line. `out` is for the bytes that a read hands out.
@@ -37,17 +41,17 @@ pub fn take_turn(
     j: &[u8],
     at: usize,
     l: Ledger,
-    clocks: &mut [u32; 16],
-    firsts: &mut [i64; 16],
-    seconds: &mut [i64; 16],
-    input: &mut [u32; 128],
-    blocking: &mut [u32; 32],
-    fast: &mut [u32; 4],
-    generator: &mut [u32; 16],
+    clocks: &mut [u32; DEVICES],
+    firsts: &mut [i64; DEVICES],
+    seconds: &mut [i64; DEVICES],
+    input: &mut [u32; INPUT_WORDS],
+    blocking: &mut [u32; BLOCKING_WORDS],
+    fast: &mut [u32; FAST_WORDS],
+    generator: &mut [u32; GENERATOR_WORDS],
     out: &mut [u8; OUT_ROOM],
     room: &mut [u8; 8259],
 ) -> Turn
-    ensures { λ r. ⌜ Took (turnOf (now (j .entry)) at (keeperOf l (now (clocks .entry)) (now (firsts .entry)) (now (seconds .entry)) (now (input .entry)) (now (blocking .entry)) (now (fast .entry)) (now (generator .entry)))) (keeperOf (r .ledger) (now (clocks .exit)) (now (firsts .exit)) (now (seconds .exit)) (now (input .exit)) (now (blocking .exit)) (now (fast .exit)) (now (generator .exit))) r (now (out .entry)) (now (out .exit)) (now (room .entry)) (now (room .exit)) ⌝ }
+    ensures { λ r. let k = lent l (r .ledger) clocks firsts seconds input blocking fast generator in ⌜ Took (turnOf (now (j .entry)) at (k .entry)) (k .exit) r (now (out .entry)) (now (out .exit)) (now (room .entry)) (now (room .exit)) ⌝ }
 {
     match read(j, at) {
         Found::One(it, next) => {

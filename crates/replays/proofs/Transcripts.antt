@@ -11,7 +11,7 @@ use Rattle.sha1.specs.Sha1.{ch, parity, maj, mix as Sha1·mix, constant, initia
 use Rattle.ledger.specs.Choice.{pick}
 use Rattle.ledger.specs.Credits.{further, credited, taken}
 use Rattle.ledger.specs.Clocks.{signed, log2, estimate, eventBits}
-use Rattle.ledger.specs.Range.{ledgerInRange, restInRange, inRange}
+use Rattle.ledger.specs.Range.{ledgerInRange, othersInRange, inRange}
 use Rattle.pool.specs.Mixing.{twisted, tapped, mixedWords, mix}
 use Rattle.pool.specs.Extracting.{hashed, poolHash, folded, extractBlocks}
 use Rattle.keeper.specs.FastPool.{stirred}
@@ -40,7 +40,7 @@ end-0 = 101 ∷ 110 ∷ 100 ∷ 32 ∷ 48 ∷ 10 ∷ []
 pub paper-told : transcriptOf (opening ++ replicate 48 0 ++ (5 ∷ 0 ∷ 0 ∷ 0 ∷ 0 ∷ 4 ∷ 0 ∷ []))
     -- `2 0 0 0 0 0`
     ≡ (50 ∷ 32 ∷ 48 ∷ 32 ∷ 48 ∷ 32 ∷ 48 ∷ 32 ∷ 48 ∷ 32 ∷ 48 ∷ 10 ∷ []) ++ end-0
-unfolding transcriptOf linesOf outcomes lineFor callWith carriedBy walkOf behind walk walkFrom headerOf headerWithin refusalWithin startOf readAt front opened carrying fieldsIn widths sum recordOf carries lineOf endOf wordOf digits tailOf told inRange restInRange ledgerInRange act readCall bytesWords leNumber pick
+unfolding transcriptOf linesOf outcomes lineFor callWith carriedBy walkOf behind walk walkFrom headerOf headerWithin refusalWithin startOf readAt front opened carrying fieldsIn widths sum recordOf carries lineOf endOf wordOf digits tailOf told inRange othersInRange ledgerInRange act readCall bytesWords leNumber pick
 paper-told = refl
 
 -- ---- six records: each with its bytes, and with its line
@@ -106,7 +106,7 @@ abbrev six : List ℕ
 six = opening ++ (start ++ (event ++ (interrupt ++ (seeding ++ (eight ++ (credit ++ three))))))
 
 pub six-told : transcriptOf six ≡ event-line ++ (interrupt-line ++ (seeding-line ++ (eight-line ++ (credit-line ++ (three-line ++ end-0)))))
-unfolding transcriptOf linesOf outcomes lineFor callWith carriedBy walkOf behind walk walkFrom headerOf headerWithin refusalWithin startOf readAt front opened carrying fieldsIn widths sum recordOf carries lineOf endOf wordOf digits tailOf hexOf glyphOf told inRange restInRange ledgerInRange act eventCall interruptCall seedCall readCall generate blockingCall deliver transfer creditInput reseed eventBits estimate log2 signed taken credited further stirred generated stream counted xorAt bytesWords leNumber wordsBytes leBytes chachaBlock rounds innerBlock quarterRound line extractBlocks poolHash hashed folded compressed initialHash run step schedule nextWord constant Sha1·mix ch parity maj swapped mix mixedWords tapped twisted rotl zipWith pick
+unfolding transcriptOf linesOf outcomes lineFor callWith carriedBy walkOf behind walk walkFrom headerOf headerWithin refusalWithin startOf readAt front opened carrying fieldsIn widths sum recordOf carries lineOf endOf wordOf digits tailOf hexOf glyphOf told inRange othersInRange ledgerInRange act eventCall interruptCall seedCall readCall generate blockingCall deliver transfer creditInput reseed eventBits estimate log2 signed taken credited further stirred generated stream counted xorAt bytesWords leNumber wordsBytes leBytes chachaBlock rounds innerBlock quarterRound line extractBlocks poolHash hashed folded compressed initialHash run step schedule nextWord constant Sha1·mix ch parity maj swapped mix mixedWords tapped twisted rotl zipWith pick
 six-told = refl
 
 -- ---- the hex blotted out: `0 3 256 192 0 10*******`, and the last line as it is

@@ -17,6 +17,7 @@ pub use feeding::event_on;
 pub use feeding::interrupt_on;
 pub use feeding::seed_on;
 pub use feeding::write_on;
+pub use making::fresh_ledger;
 pub use making::make_on;
 pub use reading::blocking_read_on;
 pub use reading::read_on;

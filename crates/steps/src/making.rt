@@ -26,7 +26,7 @@ use ledger::sizes::START_BYTES;
 use words::u32_of_bytes;
 
 // All zero, unseeded.
-fn fresh_ledger() -> Ledger
+pub fn fresh_ledger() -> Ledger
     ensures { λ r. ⌜ r ≡ freshLedger ⌝ }
 {
     let s = Spot { at: 0, turn: 0 };

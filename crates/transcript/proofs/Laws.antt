@@ -12,7 +12,7 @@ use lib.Dec.{T, ltb, leb, ltb→lt, nltb→le, leb→le}
 use Rattle.transcript.specs.Text.{Put, digits, wordOf, glyphOf, hexOf, tailOf}
 use Rattle.transcript.specs.Lines.{Written, lineOf, lineIn, atStart, textIn, longestLine, longestEnd, endOf, endIn}
 use Rattle.ledger.specs.Choice.{pick}
-use Rattle.keeper.specs.declared.Answer.{Answer}
+use Rattle.ledger.specs.declared.Answer.{Answer}
 
 impossible : 0 < 0 → ⊥
 impossible h = omega arith

@@ -5,7 +5,7 @@ use lib.ListN.{length, drop}
 use lib.Dec.{leb}
 use Rattle.transcript.specs.Text.{decimalOf, wordOf, tailOf}
 use Rattle.ledger.specs.Choice.{pick}
-use Rattle.keeper.specs.declared.Answer.{Answer}
+use Rattle.ledger.specs.declared.Answer.{Answer}
 
 unfoldable pub lineOf : Answer → ℕ → ℕ → List ℕ → List ℕ
 lineOf a input blocking bytes =

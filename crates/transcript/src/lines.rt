@@ -4,7 +4,7 @@ ghost use Rattle.transcript.specs.Lines.{lineIn, endIn};
 use crate::text::number;
 use crate::text::tail;
 use crate::text::word;
-use keeper::Answer;
+use ledger::Answer;
 use ledger::sizes::LONGEST;
 
 // The longest line with no bytes, and with the most bytes, two digits for each; the longest last line. `specs/Lines.antt` names them too.
