@@ -15,7 +15,7 @@ use Rattle.journal.specs.Header.{recordsBegin, headerOf, startOf}
 use Rattle.journal.specs.declared.heading.Heading.{Heading}
 use Rattle.journal.proofs.GoodHeader.{heading-good}
 use Rattle.journal.proofs.Laws.{start-48}
-use Rattle.transcript.specs.Lines.{Written, endOf, endIn, atStart}
+use Rattle.transcript.specs.Lines.{Written, endOf, endIn, atStart, longestEnd}
 use Rattle.keeper.specs.Record.{Outcome, fresh}
 use Rattle.keeper.specs.declared.Keeper.{Keeper}
 use Rattle.ledger.specs.declared.Answer.{Answer}
@@ -197,17 +197,17 @@ module _ (j : List ℕ) (done at : ℕ) (k : Keeper) (t : Told j done at k) (k�
 
 -- ---- a journal without records has one text
 -- a last line that fitted its room
-end-of-room : (room b : List ℕ) (n number : ℕ) → 15 ≤ length room → _≡_ {A = Written} (record { count = n; room = b }) (endIn room number) → take n b ≡ endOf number
-unfolding endIn atStart
+end-of-room : (room b : List ℕ) (n number : ℕ) → longestEnd ≤ length room → _≡_ {A = Written} (record { count = n; room = b }) (endIn room number) → take n b ≡ endOf number
+unfolding endIn atStart pick
 end-of-room room b n number h e =
-    let w : _≡_ {A = Written} (record { count = n; room = b }) (atStart room (endOf number)) = rw (le-leb 15 (length room) h) at e in
+    let w : _≡_ {A = Written} (record { count = n; room = b }) (atStart room (endOf number)) = rw (le-leb longestEnd (length room) h) at e in
     ap (λ (x : Written). take (x .count) (x .room)) w ∙ take-append-seam (endOf number) _
 
 module _ (j : List ℕ) (done number : ℕ) (d : done ≡ 0) (e : number ≡ headerOf j .number) (h : number ≡ 0 → ⊥) where
   one-text : drop done (textsOf j) ≡ endOf number ∷ []
   one-text = ap (λ (m : ℕ). drop m (textsOf j)) d ∙ bad j (λ z. h (e ∙ z)) ∙ ap (λ (m : ℕ). endOf m ∷ []) (sym e)
 
-  pub only-text : (room b : List ℕ) (n : ℕ) → 15 ≤ length room → _≡_ {A = Written} (record { count = n; room = b }) (endIn room number) → Next j done (take n b)
+  pub only-text : (room b : List ℕ) (n : ℕ) → longestEnd ≤ length room → _≡_ {A = Written} (record { count = n; room = b }) (endIn room number) → Next j done (take n b)
   only-text room b n f w = rw (end-of-room room b n number f w) (from-this j done _ _ one-text)
 
   pub only-one : done + 1 ≡ length (textsOf j)

@@ -10,9 +10,15 @@ use crate::output::Sent;
 use crate::output::write;
 use journal::header;
 use journal::payload;
+use ledger::sizes::BLOCKING_WORDS;
+use ledger::sizes::DEVICES;
+use ledger::sizes::FAST_WORDS;
+use ledger::sizes::GENERATOR_WORDS;
+use ledger::sizes::INPUT_WORDS;
 use ledger::sizes::START_BYTES;
 use steps::fresh_ledger;
 use steps::make_on;
+use transcript::LONGEST_END;
 use transcript::ending;
 
 // Hands the text of the transcript that comes next to standard output, and counts it. The journal is here for the contract, which says
@@ -32,7 +38,7 @@ fn refuse(j: &[u8], done: &mut usize, number: u32) -> Sent
     requires { ⌜ (number ≡ (headerOf (now j)) .number) × (number ≡ 0 → ⊥) ⌝ }
     ensures { λ r. ⌜ now (done .exit) ≡ length (textsOf (now (j .entry))) ⌝ }
 {
-    let mut line = [0u8; 15];
+    let mut line = [0u8; LONGEST_END];
     let n = ending(number, &mut line);
     hand_over(j, done, &line[..n])
 }
@@ -47,13 +53,13 @@ fn hand_over_all(j: &[u8], done: &mut usize) -> Sent
     if h.number != 0 {
         return refuse(j, done, h.number);
     }
-    let mut clocks = [0u32; 16];
-    let mut firsts = [0i64; 16];
-    let mut seconds = [0i64; 16];
-    let mut input = [0u32; 128];
-    let mut blocking = [0u32; 32];
-    let mut fast = [0u32; 4];
-    let mut generator = [0u32; 16];
+    let mut clocks = [0u32; DEVICES];
+    let mut firsts = [0i64; DEVICES];
+    let mut seconds = [0i64; DEVICES];
+    let mut input = [0u32; INPUT_WORDS];
+    let mut blocking = [0u32; BLOCKING_WORDS];
+    let mut fast = [0u32; FAST_WORDS];
+    let mut generator = [0u32; GENERATOR_WORDS];
     let made = make_on(
         fresh_ledger(),
         &mut clocks,

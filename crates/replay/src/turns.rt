@@ -16,6 +16,7 @@ use ledger::sizes::DEVICES;
 use ledger::sizes::FAST_WORDS;
 use ledger::sizes::GENERATOR_WORDS;
 use ledger::sizes::INPUT_WORDS;
+use transcript::LONGEST_LINE;
 use transcript::ending;
 use transcript::line;
 
@@ -49,7 +50,7 @@ pub fn take_turn(
     fast: &mut [u32; FAST_WORDS],
     generator: &mut [u32; GENERATOR_WORDS],
     out: &mut [u8; OUT_ROOM],
-    room: &mut [u8; 8259],
+    room: &mut [u8; LONGEST_LINE],
 ) -> Turn
     ensures { λ r. let k = lent l (r .ledger) clocks firsts seconds input blocking fast generator in ⌜ Took (turnOf (now (j .entry)) at (k .entry)) (k .exit) r (now (out .entry)) (now (out .exit)) (now (room .entry)) (now (room .exit)) ⌝ }
 {

@@ -2,7 +2,8 @@ use mathlib.Core.Path.{refl, sym}
 use Prim.Native.Nat.{_-_}
 use lib.ListN.{length}
 use borrow.Author.Tests.{not-false, not-true}
-use Rattle.steps.specs.Promise.{keeperOf}
+use Rattle.ledger.specs.Timers.{timersOf}
+use Rattle.keeper.specs.Record.{keeperOf}
 use Rattle.nk.proofs.Filling.{Filling, begun, goes-on, line-length, in-line, room-for, ended, full, again}
 use borrow.Author.Needs.{needs}
 use native.Mathlib.Omega.{arith}
@@ -11,7 +12,7 @@ use Rattle.nk.proofs.batches.fill_room.Tie as tie
 
 abbrev Inv-loop : tie.InvT-loop
 Inv-loop j at clocks₀ firsts₀ seconds₀ input₀ blocking₀ fast₀ generator₀ room₀ out₀ line₀ ledger₀ place₀ count₀ clocks firsts seconds input blocking fast generator room out line ledger place count =
-    Filling j at (keeperOf ledger₀ clocks₀ firsts₀ seconds₀ input₀ blocking₀ fast₀ generator₀) room₀ place (keeperOf ledger clocks firsts seconds input blocking fast generator) count room line
+    Filling j at (keeperOf ledger₀ (timersOf clocks₀ firsts₀ seconds₀) input₀ blocking₀ fast₀ generator₀) room₀ place (keeperOf ledger (timersOf clocks firsts seconds) input blocking fast generator) count room line
 
 abbrev μ-loop : tie.MeasureT-loop
 μ-loop j at clocks₀ firsts₀ seconds₀ input₀ blocking₀ fast₀ generator₀ room₀ out₀ line₀ ledger₀ place₀ count₀ clocks firsts seconds input blocking fast generator room out line ledger place count =
@@ -20,22 +21,21 @@ abbrev μ-loop : tie.MeasureT-loop
 loop-holds : tie.Need-loop-holds Inv-loop μ-loop
 loop-holds c = begun _ _ _ _ _ refl
 
-take-turn-requires : tie.Need-take-turn-requires Inv-loop μ-loop
-take-turn-requires c κs = search needs
-
 slice-aggregate-lay : tie.Need-slice-aggregate-lay Inv-loop μ-loop
 slice-aggregate-lay c =
-    let turn : tie.After-take-turn Inv-loop μ-loop = search in
-    let at : tie.At-loop Inv-loop μ-loop = search in
-    sym (line-length _ _ _ _ _ _ _ _ _ (at .loop .inv) _ _ _ _ _ (turn .take-turn .ensures))
+    let c : tie.After-take-turn Inv-loop μ-loop = search in
+    let took = c .take-turn .ensures in
+    let c : tie.At-loop Inv-loop μ-loop = search in
+    sym (line-length _ _ _ _ _ _ _ _ _ (c .loop .inv) _ _ _ _ _ took)
 
 lay-requires : tie.Need-lay-requires Inv-loop μ-loop
 lay-requires c κs =
-    let turn : tie.After-take-turn Inv-loop μ-loop = search in
-    let at : tie.At-loop Inv-loop μ-loop = search in
-    let took = turn .take-turn .ensures in
-    let filling = at .loop .inv in
-    (in-line _ _ _ _ _ _ _ _ _ filling _ _ _ _ _ took, room-for _ _ _ _ _ _ _ _ _ filling _ _ _ _ _ took (omega (arith, c .lay-arg .given .0 .1)))
+    let roomy = c .lay-arg .given .0 .1 in
+    let c : tie.After-take-turn Inv-loop μ-loop = search in
+    let took = c .take-turn .ensures in
+    let c : tie.At-loop Inv-loop μ-loop = search in
+    let filling = c .loop .inv in
+    (in-line _ _ _ _ _ _ _ _ _ filling _ _ _ _ _ took, room-for _ _ _ _ _ _ _ _ _ filling _ _ _ _ _ took (omega (arith, roomy)))
 
 returns : tie.Need-returns Inv-loop μ-loop
 returns c =
@@ -89,7 +89,7 @@ fill-room-spec =
     Inv-loop
     μ-loop
     loop-holds
-    take-turn-requires
+    (λ c κs. search needs)
     slice-aggregate-lay
     lay-requires
     returns

@@ -6,7 +6,8 @@ use lib.ListN.{length}
 use lib.Seq.{length-take-le}
 use borrow.Author.Tests.{not-false, not-true}
 use Rattle.journal.specs.declared.heading.Heading.{Heading}
-use Rattle.steps.specs.Promise.{keeperOf}
+use Rattle.ledger.specs.Timers.{timersOf}
+use Rattle.keeper.specs.Record.{keeperOf}
 use Rattle.nk.proofs.Texts.{Told, told-none, in-room, next-text, goes-on, told-more, told-all}
 use borrow.Author.Needs.{needs}
 use native.Mathlib.Omega.{arith}
@@ -15,14 +16,11 @@ use Rattle.nk.proofs.replaying.hand_over_all.Tie as tie
 
 abbrev Inv-loop : tie.InvT-loop
 Inv-loop j done₀ clocks₀ firsts₀ seconds₀ input₀ blocking₀ fast₀ generator₀ l₀ at₀ room₀ done clocks firsts seconds input blocking fast generator l at room =
-    Told j done at (keeperOf l clocks firsts seconds input blocking fast generator)
+    Told j done at (keeperOf l (timersOf clocks firsts seconds) input blocking fast generator)
 
 abbrev μ-loop : tie.MeasureT-loop
 μ-loop j done₀ clocks₀ firsts₀ seconds₀ input₀ blocking₀ fast₀ generator₀ l₀ at₀ room₀ done clocks firsts seconds input blocking fast generator l at room =
     length j - at
-
-header-requires : tie.Need-header-requires Inv-loop μ-loop
-header-requires c κs = search needs
 
 refuse-requires : tie.Need-refuse-requires Inv-loop μ-loop
 refuse-requires c κs =
@@ -36,15 +34,6 @@ refuse-requires c κs =
 returns : tie.Need-returns Inv-loop μ-loop
 returns c = λ e. c .refuse .ensures
 
-blank-ledger-requires : tie.Need-blank-ledger-requires Inv-loop μ-loop
-blank-ledger-requires c κs = search needs
-
-payload-requires : tie.Need-payload-requires Inv-loop μ-loop
-payload-requires c κs = search needs
-
-make-on-requires : tie.Need-make-on-requires Inv-loop μ-loop
-make-on-requires c κs = search needs
-
 loop-holds : tie.Need-loop-holds Inv-loop μ-loop
 loop-holds c =
     let c : tie.After-make-on Inv-loop μ-loop = search in
@@ -57,9 +46,6 @@ loop-holds c =
     let said = c .header .ensures in
     let c : tie.Start Inv-loop μ-loop = search in
     told-none _ _ _ _ _ _ _ (c .pre) said good start made
-
-fill-room-requires : tie.Need-fill-room-requires Inv-loop μ-loop
-fill-room-requires c κs = search needs
 
 array-share-prefix-room : tie.Need-array-share-prefix-room Inv-loop μ-loop
 array-share-prefix-room c =
@@ -83,9 +69,6 @@ hand-over-requires c κs =
     let laid = c .fill-room .ensures in
     let c : tie.At-loop Inv-loop μ-loop = search in
     next-text _ _ _ _ (c .loop .inv) _ _ _ _ laid
-
-enum-told : tie.Need-enum-told Inv-loop μ-loop
-enum-told c = search needs
 
 returns-2 : tie.Need-returns-2 Inv-loop μ-loop
 returns-2 c = λ e. absurd (miss (1 ∷ 2 ∷ []) 0 tt (rw e at (c .match .keys2)))
@@ -125,18 +108,18 @@ hand-over-all-spec =
     (tie.spec
     Inv-loop
     μ-loop
-    header-requires
+    (λ c κs. search needs)
     refuse-requires
     returns
-    blank-ledger-requires
-    payload-requires
-    make-on-requires
+    (λ c κs. search needs)
+    (λ c κs. search needs)
+    (λ c κs. search needs)
     loop-holds
-    fill-room-requires
+    (λ c κs. search needs)
     array-share-prefix-room
     slice-aggregate-hand-over
     hand-over-requires
-    enum-told
+    (λ c. search needs)
     returns-2
     returns-3
     loop-less
