@@ -33,9 +33,9 @@ abbrev pub halt : ℕ → ℕ → Walk
 halt at n = record { entries = []; stop = at; number = n }
 
 abbrev pub step : ℕ → Found → (ℕ → Walk) → Walk
-step at (One r next) rest = onto (entry at r next) (rest next)
-step at (Stop n) rest = halt at n
-step at End rest = halt at 0
+step at (One r next) on = onto (entry at r next) (on next)
+step at (Stop n) on = halt at n
+step at End on = halt at 0
 
 -- f records at most
 unfoldable pub walkFrom : ℕ → ℕ → List ℕ → ℕ → Walk

@@ -1,7 +1,7 @@
 -- The calls, told step by step in the paper's order, refusals first.
 use mathlib.Core.Bool.{Bool, true, false, _&&_, not}
 use mathlib.Core.List.{List, [], _∷_, _++_}
-use Prim.Native.Nat.{ℕ, _+_, _*_, min, max}
+use Prim.Native.Nat.{ℕ, _+_, _*_}
 use lib.Dec.{ltb, leb, eqb}
 use lib.ListN.{length}
 use Rattle.words.specs.Bytes.{wordsBytes}
@@ -9,7 +9,7 @@ use Rattle.ledger.specs.Choice.{pick}
 use Rattle.ledger.specs.Sizes.{devices, longest}
 use Rattle.ledger.specs.Numbers.{done, wouldBlock, unseeded, tooLong, noSuchDevice, creditTooHigh, repeated, outOfRange}
 use Rattle.ledger.specs.Shapes.{inputShape, blockingShape}
-use Rattle.ledger.specs.Credits.{credited, taken, debited, reseedTakes}
+use Rattle.ledger.specs.Credits.{credited, taken, debited, reseedTakes, transferTakes}
 use Rattle.ledger.specs.Clocks.{nextTimer, eventBits}
 use Rattle.ledger.specs.Marks.{isSeeded, inputCounts, blockingCounts, seededAt, valued, tallied, spilled, stays, reseedDue, isLow}
 use Rattle.ledger.specs.declared.Ledger.{Ledger}
@@ -125,7 +125,7 @@ deliver n w =
 
 unfoldable pub blockingCall : ℕ → Keeper → Outcome
 blockingCall n k =
-    let t = pick (ltb (k .ledger .blocking .count) (64 * n)) (taken (min (max n 8) 128) 8 (k .ledger .input .count)) 0 in
+    let t = pick (ltb (k .ledger .blocking .count) (64 * n)) (transferTakes n (k .ledger .input .count)) 0 in
     pick (ltb longest n) (refused tooLong k)
     (pick (eqb n 0) (finished (k, 0)) (pick (isLow (k .ledger)) (refused wouldBlock k) (deliver n (transfer t k))))
 

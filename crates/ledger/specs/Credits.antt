@@ -1,6 +1,6 @@
 -- Credits and debits, on a count in eighths of a bit.
 use mathlib.Core.Bool.{_&&_}
-use Prim.Native.Nat.{ℕ, zero, suc, _+_, _-_, _*_, _/_, _≤_, min}
+use Prim.Native.Nat.{ℕ, zero, suc, _+_, _-_, _*_, _/_, _≤_, min, max}
 use lib.Dec.{ltb, eqb}
 use Rattle.ledger.specs.Choice.{pick}
 
@@ -42,3 +42,7 @@ debited t count = count - 64 * t
 -- a reseed debits for 32 with least 16
 abbrev pub reseedTakes : ℕ → ℕ
 reseedTakes count = taken 32 16 count
+
+-- a blocking read of n debits the input pool for min(max(n, 8), 128) with least 8
+abbrev pub transferTakes : ℕ → ℕ → ℕ
+transferTakes n count = taken (min (max n 8) 128) 8 count

@@ -8,7 +8,7 @@ use Rattle.ledger.specs.Sizes.{devices, longest}
 use Rattle.ledger.specs.Numbers.{done, wouldBlock, unseeded, tooLong, noSuchDevice, creditTooHigh, repeated, outOfRange}
 use Rattle.ledger.specs.Shapes.{inputShape, blockingShape}
 use Rattle.ledger.specs.Places.{costs}
-use Rattle.ledger.specs.Credits.{credited, taken, debited, reseedTakes}
+use Rattle.ledger.specs.Credits.{credited, taken, debited, reseedTakes, transferTakes}
 use Rattle.ledger.specs.Clocks.{nextTimer, eventBits}
 use Rattle.ledger.specs.Timers.{freshTimer}
 use Rattle.ledger.specs.Streams.{streamBlocks}
@@ -80,7 +80,7 @@ planRead now len l =
 
 -- the bytes that a blocking read of n brings over from the input pool
 abbrev pub transferred : ℕ → Ledger → ℕ
-transferred n l = pick (ltb (l .blocking .count) (64 * n)) (taken (min (max n 8) 128) 8 (l .input .count)) 0
+transferred n l = pick (ltb (l .blocking .count) (64 * n)) (transferTakes n (l .input .count)) 0
 
 -- the blocking count after t bytes came over, eight bits a byte
 abbrev pub refilled : ℕ → Ledger → ℕ

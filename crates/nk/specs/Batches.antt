@@ -1,4 +1,4 @@
--- A journal's transcript as the program writes it: in texts, one a write, each as many lines as a room of 65,536 bytes takes.
+-- A journal's transcript as the program writes it: in texts, one a write, each as many lines as a room takes.
 use mathlib.Core.Bool.{Bool, false}
 use mathlib.Core.Path.{_≡_}
 use mathlib.Core.List.{List, [], _∷_, _++_}
@@ -6,8 +6,9 @@ use Prim.Native.Nat.{ℕ, zero, suc, _<_}
 use lib.Dec.{leb, eqb}
 use lib.ListN.{length, drop, getD}
 use Rattle.ledger.specs.Choice.{pick}
+use Rattle.ledger.specs.Sizes.{longest}
 use Rattle.journal.specs.Header.{headerOf, startOf}
-use Rattle.transcript.specs.Lines.{endOf}
+use Rattle.transcript.specs.Lines.{endOf, longestLine}
 use Rattle.keeper.specs.Record.{fresh}
 use Rattle.keeper.specs.declared.Keeper.{Keeper}
 use Rattle.replay.specs.Turns.{turnOf}
@@ -20,8 +21,11 @@ pub record Lines : Type 0 where
   pub more : Bool
   pub text : List ℕ
 
--- turns whose lines come behind a text, until the replay ends or the lines are more than 57,277 bytes: up to that many, the longest line,
--- of 8,259, still fits a room of 65,536. n turns at most
+-- the room that lines are gathered in
+abbrev pub batchRoom : ℕ
+batchRoom = 65536
+
+-- turns whose lines come behind a text, until the replay ends or the longest line would no longer fit the room. n turns at most
 unfoldable pub turnsBehind : ℕ → List ℕ → ℕ → Keeper → List ℕ → Lines
 turnsBehind zero j at k text = record { keeper = k; at = at; more = false; text = text }
 turnsBehind (suc n) j at k text =
@@ -29,7 +33,7 @@ turnsBehind (suc n) j at k text =
     let lines = text ++ a .line in
     let on = turnsBehind n j (a .at) (a .keeper) lines in
     let over : Lines = record { keeper = a .keeper; at = a .at; more = a .more; text = lines } in
-    pick (a .more) (pick (leb (length lines) 57277) on over) over
+    pick (a .more) (pick (leb (length lines) (batchRoom - longestLine longest)) on over) over
 
 -- the batch at a position, on a keeper as it is there. No journal has more turns than bytes, but for the last
 unfoldable pub batchOf : List ℕ → ℕ → Keeper → Lines

@@ -38,7 +38,7 @@ pub fn fill_room(
     blocking: &mut [u32; BLOCKING_WORDS],
     fast: &mut [u32; FAST_WORDS],
     generator: &mut [u32; GENERATOR_WORDS],
-    room: &mut [u8; 65536],
+    room: &mut [u8; ROOM],
 ) -> Batch
     ensures { λ r. let k = lent l (r .ledger) clocks firsts seconds input blocking fast generator in ⌜ Laid (batchOf (now (j .entry)) at (k .entry)) (k .exit) r (now (room .entry)) (now (room .exit)) ⌝ }
 {
