@@ -1,25 +1,24 @@
 -- Bytes that a call hands out, in a room that is longer than the call knows.
 use mathlib.Core.Path.{_≡_, refl, sym, ap, _∙_}
-use mathlib.Core.Bool.{Bool, true, false, not}
+use mathlib.Core.Bool.{Bool, true, false}
 use mathlib.Core.List.{List, [], _∷_, _++_, append-assoc}
-use Prim.Native.Nat.{ℕ, zero, suc, _+_, _*_, _≤_, _<_, min, max}
+use Prim.Native.Nat.{ℕ, zero, suc, _+_, _≤_, _<_, min}
 use native.Mathlib.Omega.{arith}
-use lib.Dec.{ltb, eqb}
-use lib.ListN.{length, take, drop, length-append, length-take, length-drop, take-append-drop}
-use lib.Seq.{length-take-le, drop-append-le, take-append-seam}
+use lib.Dec.{ltb}
+use lib.ListN.{length, take, drop, length-append, length-take, take-append-drop}
+use lib.Seq.{length-take-le, take-append-seam}
 use borrow.Author.Tests.{lt-ltb, ltb-true, ltb-false}
 use Rattle.ledger.specs.Sizes.{longest}
 use Rattle.ledger.specs.Choice.{pick}
 use Rattle.ledger.specs.Shapes.{blockingShape}
 use Rattle.ledger.specs.Credits.{taken}
-use Rattle.ledger.specs.Marks.{isSeeded, reseedDue, isLow}
 use Rattle.ledger.proofs.Picks.{pick-both, pick-by}
 use Rattle.ledger.proofs.Crediting.{taken-wanted}
 use Rattle.pool.proofs.Extracted.{laws}
-use Rattle.keeper.specs.Generator.{stream, generated}
-use Rattle.keeper.specs.Record.{Outcome, refused, roomAfter, Run, finished}
+use Rattle.keeper.specs.Generator.{generated}
+use Rattle.keeper.specs.Record.{Outcome, roomAfter, Run}
 use Rattle.keeper.specs.Calls.{Call, deviceEvent, interrupted, written, seededWith, generatorRead, blockingReadOf}
-use Rattle.keeper.specs.Narrative.{eventCall, interruptCall, writeCall, seedCall, generate, readCall, transfer, deliver, blockingCall, act, told}
+use Rattle.keeper.specs.Narrative.{eventCall, interruptCall, writeCall, seedCall, generate, readCall, deliver, blockingCall, act, told}
 use Rattle.keeper.specs.declared.Keeper.{Keeper}
 use Rattle.ledger.specs.declared.Answer.{Answer}
 use Rattle.keeper.proofs.Refusals.{delivered}
@@ -102,11 +101,11 @@ part-of n room bs xs h l e =
     let b : length bs ≤ n = omega (arith, ap length e, length-append bs (drop (length bs) (take n room)), l) in
     ap (λ (ys : List ℕ). ys ++ drop n room) e ∙ append-assoc bs _ _ ∙ ap (λ (ys : List ℕ). bs ++ ys) (beyond (length bs) n room b)
 
-pub longer : (k k′ : Keeper) (c d : Call) (a : Answer) (n : ℕ) (room xs : List ℕ) → n ≤ length room → length xs ≡ n → told k c ≡ told k d
+longer : (n : ℕ) (room xs : List ℕ) (k k′ : Keeper) (c d : Call) (a : Answer) → n ≤ length room → length xs ≡ length (take n room) → told k c ≡ told k d
     → left k′ a xs ≡ leaves k c (take n room) → left k′ a (xs ++ drop n room) ≡ leaves k d room
 unfolding leaves
-longer k k′ c d a n room xs h l s e =
-    let p = part-of n room ((told k c) .bytes) xs h l (ap (λ (x : Left). x .room) e) in
+longer n room xs k k′ c d a h l s e =
+    let p = part-of n room ((told k c) .bytes) xs h (l ∙ length-take-le n room h) (ap (λ (x : Left). x .room) e) in
     (λ i. record { keeper = (e i) .keeper; answer = (e i) .answer; room = p i }) ∙ ap (over room) s
 
 -- ---- what was handed out stands in front, and its length is what the answer says
@@ -125,20 +124,26 @@ front k k′ c a room room′ e =
       bytes = ap (λ (m : ℕ). take m room′) n ∙ ap (λ (x : List ℕ). take (length bs) x) r ∙ take-append-seam bs _;
     }
 
--- ---- a read into a room for at most 4,097 bytes
-pub same-generatorRead : (k : Keeper) (now len n : ℕ) → n ≡ min len (longest + 1) → told k (generatorRead now n) ≡ told k (generatorRead now len)
-same-generatorRead k now len n e = by (ltb longest len) refl
+-- ---- a read into a room for 4,097 bytes: a part of it is enough, whatever the length
+same-read : (call : ℕ → Call) (k : Keeper) (len n : ℕ) → ((m l : ℕ) → longest < m → longest < l → told k (call m) ≡ told k (call l))
+    → n ≡ min len (longest + 1) → told k (call n) ≡ told k (call len)
+same-read call k len n long e = by (ltb longest len) refl
   where
-    by : (b : Bool) → ltb longest len ≡ b → told k (generatorRead now n) ≡ told k (generatorRead now len)
-    by true h = long-read k now n len (omega (arith, e, ltb-true longest len h)) (ltb-true longest len h)
-    by false h = let m : n ≡ len = omega (arith, e, ltb-false longest len h) in ap (λ (x : ℕ). told k (generatorRead now x)) m
+    by : (b : Bool) → ltb longest len ≡ b → told k (call n) ≡ told k (call len)
+    by true h = long n len (omega (arith, e, ltb-true longest len h)) (ltb-true longest len h)
+    by false h = let m : n ≡ len = omega (arith, e, ltb-false longest len h) in ap (λ (x : ℕ). told k (call x)) m
 
-pub same-blockingReadOf : (k : Keeper) (len n : ℕ) → n ≡ min len (longest + 1) → told k (blockingReadOf n) ≡ told k (blockingReadOf len)
-same-blockingReadOf k len n e = by (ltb longest len) refl
-  where
-    by : (b : Bool) → ltb longest len ≡ b → told k (blockingReadOf n) ≡ told k (blockingReadOf len)
-    by true h = long-blocking k n len (omega (arith, e, ltb-true longest len h)) (ltb-true longest len h)
-    by false h = let m : n ≡ len = omega (arith, e, ltb-false longest len h) in ap (λ (x : ℕ). told k (blockingReadOf x)) m
+module _ (n len : ℕ) (room : List ℕ) (all : length room ≡ longest + 1) (part : n ≡ min len (longest + 1)) where
+  pub as-long : length (take n room) ≡ n
+  as-long = length-take-le n room (omega arith)
+
+  pub part-read : (k k′ : Keeper) (a : Answer) (now : ℕ) (xs : List ℕ) → length xs ≡ length (take n room)
+      → left k′ a xs ≡ leaves k (generatorRead now (length (take n room))) (take n room) → left k′ a (xs ++ drop n room) ≡ leaves k (generatorRead now len) room
+  part-read k k′ a now xs l = longer n room xs k k′ _ _ a (omega arith) l (same-read (generatorRead now) k len _ (long-read k now) (as-long ∙ part))
+
+  pub part-blocking : (k k′ : Keeper) (a : Answer) (xs : List ℕ) → length xs ≡ length (take n room)
+      → left k′ a xs ≡ leaves k (blockingReadOf (length (take n room))) (take n room) → left k′ a (xs ++ drop n room) ≡ leaves k (blockingReadOf len) room
+  part-blocking k k′ a xs l = longer n room xs k k′ _ _ a (omega arith) l (same-read blockingReadOf k len _ (long-blocking k) (as-long ∙ part))
 
 -- ---- what is promised of a call is promised of another name for it
 pub called : (k k′ : Keeper) (c d : Call) (a : Answer) (room room′ : List ℕ) → c ≡ d → left k′ a room′ ≡ leaves k d room → left k′ a room′ ≡ leaves k c room

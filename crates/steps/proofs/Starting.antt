@@ -1,12 +1,12 @@
 -- The generator's words of 48 start bytes, one by one as the code reads them.
-use mathlib.Core.Path.{_≡_, refl, sym, ap, _∙_}
+use mathlib.Core.Path.{_≡_, refl, sym, ap}
 use mathlib.Core.List.{List, [], _∷_, _++_}
 use Prim.Native.Nat.{ℕ, zero, suc, _+_, _*_, _≤_}
 use native.Mathlib.Omega.{arith}
-use lib.ListN.{length, getD, take, drop, drop-of-length-le}
-use lib.Seq.{drop-cons}
+use lib.ListN.{length, getD, take}
 use Rattle.words.specs.Bytes.{leNumber, bytesWords}
 use Rattle.words.proofs.Numbers.{length-bytesWords-whole}
+use Rattle.words.proofs.WrittenOut.{gets, gets-all}
 use Rattle.ledger.specs.Range.{fixedWords}
 
 -- where the bytes of word i begin
@@ -47,33 +47,9 @@ word-read bs i h =
     let e3 : 4 * i + 3 ≡ suc (suc (suc (from i))) = omega (arith, f) in
     rw (e3, e2, e1, e0) (sym (words-by-four bs i (omega (arith, f))))
 
--- a list of twelve, written out
-dozen : (ws : List ℕ) → length ws ≡ 12
-    → ws
-    ≡ getD ws 0 0 ∷ getD ws 1 0 ∷ getD ws 2 0 ∷ getD ws 3 0 ∷ getD ws 4 0 ∷ getD ws 5 0 ∷ getD ws 6 0 ∷ getD ws 7 0 ∷ getD ws 8 0 ∷ getD ws 9 0 ∷ getD ws 10 0 ∷ getD ws 11 0 ∷ []
-dozen ws l =
-    let n : (i : ℕ) → List ℕ → List ℕ = λ (i : ℕ) (t : List ℕ). getD ws i 0 ∷ t in
-    drop-cons ws 0 0 (omega arith) ∙ ap (n 0)
-    (drop-cons ws 1 0 (omega arith) ∙ ap (n 1)
-    (drop-cons ws 2 0 (omega arith) ∙ ap (n 2)
-    (drop-cons ws 3 0 (omega arith) ∙ ap (n 3)
-    (drop-cons ws 4 0 (omega arith) ∙ ap (n 4)
-    (drop-cons ws 5 0 (omega arith) ∙ ap (n 5)
-    (drop-cons ws 6 0 (omega arith) ∙ ap (n 6)
-    (drop-cons ws 7 0 (omega arith) ∙ ap (n 7)
-    (drop-cons ws 8 0 (omega arith) ∙ ap (n 8)
-    (drop-cons ws 9 0 (omega arith) ∙ ap (n 9)
-    (drop-cons ws 10 0 (omega arith) ∙ ap (n 10)
-    (drop-cons ws 11 0 (omega arith) ∙ ap (n 11) (drop-of-length-le ws {i = 12} (omega arith)))))))))))))
-
 -- the generator's first words, written out
-pub first-words : (bs : List ℕ) (a b c d e f g h i j k l : ℕ) → length bs ≡ 48
-    → let ws = bytesWords bs in
-    a ≡ getD ws 0 0 → b ≡ getD ws 1 0 → c ≡ getD ws 2 0 → d ≡ getD ws 3 0 → e ≡ getD ws 4 0 → f ≡ getD ws 5 0
-    → g ≡ getD ws 6 0 → h ≡ getD ws 7 0 → i ≡ getD ws 8 0 → j ≡ getD ws 9 0 → k ≡ getD ws 10 0 → l ≡ getD ws 11 0
-    → 0x61707865 ∷ 0x3320646e ∷ 0x79622d32 ∷ 0x6b206574 ∷ a ∷ b ∷ c ∷ d ∷ e ∷ f ∷ g ∷ h ∷ i ∷ j ∷ k ∷ l ∷ [] ≡ fixedWords ++ bytesWords bs
-first-words bs a b c d e f g h i j k l n ea eb ec ed ee ef eg eh ei ej ek el =
-    rw (ea, eb, ec, ed, ee, ef, eg, eh, ei, ej, ek, el) (ap (λ (ws : List ℕ). fixedWords ++ ws) (sym (dozen (bytesWords bs) (length-bytesWords-whole bs 12 (omega (arith, n))))))
+pub first-words : (bs : List ℕ) → length bs ≡ 48 → fixedWords ++ gets 12 0 (bytesWords bs) ≡ fixedWords ++ bytesWords bs
+first-words bs n = ap (λ (ws : List ℕ). fixedWords ++ ws) (sym (gets-all 12 0 (bytesWords bs) (length-bytesWords-whole bs 12 (omega (arith, n)))))
 
 -- ---- words 0 to 3 of a generator, written out
 pub front-four : (g : List ℕ) → 4 ≤ length g → getD g 0 0 ∷ getD g 1 0 ∷ getD g 2 0 ∷ getD g 3 0 ∷ [] ≡ take 4 g

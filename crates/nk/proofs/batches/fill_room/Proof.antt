@@ -51,8 +51,9 @@ returns c =
 
 returns-2 : tie.Need-returns-2 Inv-loop μ-loop
 returns-2 c =
-    let more = c .before .if1 .left in
     let room-full = c .if2 .taken in
+    let c : tie.Else1 Inv-loop μ-loop = search in
+    let more = c .if1 .left in
     let c : tie.After-lay Inv-loop μ-loop = search in
     let laid = c .lay .ensures in
     let c : tie.After-lay-arg Inv-loop μ-loop = search in
@@ -64,15 +65,19 @@ returns-2 c =
 
 loop-less : tie.Need-loop-less Inv-loop μ-loop
 loop-less c =
-    let turn : tie.After-take-turn Inv-loop μ-loop = search in
-    let at : tie.At-loop Inv-loop μ-loop = search in
-    let h = goes-on _ _ _ _ _ _ _ _ _ (at .loop .inv) _ _ _ _ _ (turn .take-turn .ensures) (not-false _ (c .before .if1 .left)) in
+    let c : tie.Else1 Inv-loop μ-loop = search in
+    let more = c .if1 .left in
+    let c : tie.After-take-turn Inv-loop μ-loop = search in
+    let took = c .take-turn .ensures in
+    let c : tie.At-loop Inv-loop μ-loop = search in
+    let h = goes-on _ _ _ _ _ _ _ _ _ (c .loop .inv) _ _ _ _ _ took (not-false _ more) in
     omega arith
 
 loop-again : tie.Need-loop-again Inv-loop μ-loop
 loop-again c =
-    let more = c .before .if1 .left in
     let room-left = c .if2 .left in
+    let c : tie.Else1 Inv-loop μ-loop = search in
+    let more = c .if1 .left in
     let c : tie.After-lay Inv-loop μ-loop = search in
     let laid = c .lay .ensures in
     let c : tie.After-lay-arg Inv-loop μ-loop = search in
@@ -84,15 +89,4 @@ loop-again c =
 
 pub fill-room-spec : {M : Type 1} → statement M
 fill-room-spec =
-    tie.close
-    (tie.spec
-    Inv-loop
-    μ-loop
-    loop-holds
-    (λ c κs. search needs)
-    slice-aggregate-lay
-    lay-requires
-    returns
-    returns-2
-    loop-less
-    loop-again)
+    tie.close (tie.spec Inv-loop μ-loop loop-holds (λ c κs. search needs) slice-aggregate-lay lay-requires returns returns-2 loop-less loop-again)

@@ -9,11 +9,5 @@ add-done c =
     let start : tie.Start = search in
     omega (arith, start .pre .left, few-texts (start .args .j .now))
 
-write-requires : tie.Need-write-requires
-write-requires c κs = search needs
-
-returns : tie.Need-returns
-returns c = search needs
-
 pub hand-over-spec : {M : Type 1} → statement M
-hand-over-spec = tie.close (tie.spec add-done write-requires returns)
+hand-over-spec = tie.close (tie.spec add-done (λ c κs. search needs) (λ c. search needs))

@@ -85,7 +85,8 @@ returns-3 c =
 
 loop-less : tie.Need-loop-less Inv-loop μ-loop
 loop-less c =
-    let more = c .before .if2 .left in
+    let c : tie.Else2 Inv-loop μ-loop = search in
+    let more = c .if2 .left in
     let c : tie.After-fill-room Inv-loop μ-loop = search in
     let laid = c .fill-room .ensures in
     let c : tie.At-loop Inv-loop μ-loop = search in
@@ -94,7 +95,8 @@ loop-less c =
 
 loop-again : tie.Need-loop-again Inv-loop μ-loop
 loop-again c =
-    let more = c .before .if2 .left in
+    let c : tie.Else2 Inv-loop μ-loop = search in
+    let more = c .if2 .left in
     let c : tie.After-hand-over Inv-loop μ-loop = search in
     let over = c .hand-over .ensures in
     let c : tie.After-fill-room Inv-loop μ-loop = search in
@@ -105,22 +107,6 @@ loop-again c =
 pub hand-over-all-spec : {M : Type 1} → statement M
 hand-over-all-spec =
     tie.close
-    (tie.spec
-    Inv-loop
-    μ-loop
-    (λ c κs. search needs)
-    refuse-requires
-    returns
-    (λ c κs. search needs)
-    (λ c κs. search needs)
-    (λ c κs. search needs)
-    loop-holds
-    (λ c κs. search needs)
-    array-share-prefix-room
-    slice-aggregate-hand-over
-    hand-over-requires
-    (λ c. search needs)
-    returns-2
-    returns-3
-    loop-less
-    loop-again)
+    (tie.spec Inv-loop μ-loop (λ c κs. search needs) refuse-requires returns (λ c κs. search needs) (λ c κs. search needs) (λ c κs. search needs)
+    loop-holds (λ c κs. search needs) array-share-prefix-room slice-aggregate-hand-over hand-over-requires (λ c. search needs) returns-2 returns-3
+    loop-less loop-again)

@@ -7,12 +7,6 @@ use borrow.Author.Needs.{needs}
 use Rattle.nk.proofs.replaying.refuse.Statement.{statement}
 use Rattle.nk.proofs.replaying.refuse.Tie as tie
 
-slice-aggregate-ending : tie.Need-slice-aggregate-ending
-slice-aggregate-ending c = search needs
-
-ending-requires : tie.Need-ending-requires
-ending-requires c κs = search needs
-
 array-share-prefix-line : tie.Need-array-share-prefix-line
 array-share-prefix-line c =
     let c : tie.After-ending = search in
@@ -38,11 +32,4 @@ returns c =
 
 pub refuse-spec : {M : Type 1} → statement M
 refuse-spec =
-    tie.close
-    (tie.spec
-    slice-aggregate-ending
-    ending-requires
-    array-share-prefix-line
-    slice-aggregate-hand-over
-    hand-over-requires
-    returns)
+    tie.close (tie.spec (λ c. search needs) (λ c κs. search needs) array-share-prefix-line slice-aggregate-hand-over hand-over-requires returns)

@@ -1,5 +1,3 @@
-use mathlib.Core.Path.{_≡_}
-use Prim.Native.Nat.{ℕ}
 use borrow.Author.Needs.{needs}
 use borrow.Author.Tests.{eq-eqb, ne-eqb}
 use Rattle.ledger.specs.Choice.{pick}
@@ -7,16 +5,17 @@ use Rattle.nk.specs.Status.{statusOf}
 use Rattle.nk.proofs.status.judge.Statement.{statement}
 use Rattle.nk.proofs.status.judge.Tie as tie
 
-scan-requires : tie.Need-scan-requires
-scan-requires c κs = search needs
-
 returns : tie.Need-returns
 unfolding statusOf pick
-returns c = rw (← c .before .scan .ensures, eq-eqb _ _ (c .if1 .taken))
+returns c =
+    let s : tie.After-scan = search in
+    rw (← s .scan .ensures, eq-eqb _ _ (c .if1 .taken))
 
 returns-2 : tie.Need-returns-2
 unfolding statusOf pick
-returns-2 c = rw (← c .before .scan .ensures, ne-eqb _ _ (c .if1 .left))
+returns-2 c =
+    let s : tie.After-scan = search in
+    rw (← s .scan .ensures, ne-eqb _ _ (c .if1 .left))
 
 pub judge-spec : {M : Type 1} → statement M
-judge-spec = tie.close (tie.spec scan-requires returns returns-2)
+judge-spec = tie.close (tie.spec (λ c κs. search needs) returns returns-2)
