@@ -12,7 +12,7 @@ use Rattle.transcript.specs.Text.{Put}
 use Rattle.keeper.specs.declared.Keeper.{Keeper}
 use Rattle.replay.specs.Turns.{turnOf, Took}
 use Rattle.replay.specs.declared.turns.Turn.{Turn}
-use Rattle.nk.specs.Batches.{Lines, turnsBehind, batchOf, Laid}
+use Rattle.nk.specs.Batches.{batchRoom, mostBefore, Lines, turnsBehind, batchOf, Laid}
 use Rattle.nk.proofs.Turning.{short, ahead}
 
 -- ---- what a turn more makes of the lines
@@ -29,14 +29,14 @@ module _ (n : ℕ) (j : List ℕ) (at : ℕ) (k : Keeper) (text : List ℕ) wher
   unfolding turnsBehind pick
   last-turn e = rw e
 
-  pub full-turn : 57277 < length (text ++ (turnOf j at k) .line) → turnsBehind (suc n) j at k text ≡ over j at k text
+  pub full-turn : mostBefore < length (text ++ (turnOf j at k) .line) → turnsBehind (suc n) j at k text ≡ over j at k text
   unfolding turnsBehind pick
-  full-turn h = rw (lt-leb (length (text ++ (turnOf j at k) .line)) 57277 h) (either-way ((turnOf j at k) .more) _)
+  full-turn h = rw (lt-leb (length (text ++ (turnOf j at k) .line)) mostBefore h) (either-way ((turnOf j at k) .more) _)
 
-  pub further-turn : (turnOf j at k) .more ≡ true → length (text ++ (turnOf j at k) .line) ≤ 57277
+  pub further-turn : (turnOf j at k) .more ≡ true → length (text ++ (turnOf j at k) .line) ≤ mostBefore
       → turnsBehind (suc n) j at k text ≡ turnsBehind n j ((turnOf j at k) .at) ((turnOf j at k) .keeper) (text ++ (turnOf j at k) .line)
   unfolding turnsBehind pick
-  further-turn e h = rw (e, le-leb (length (text ++ (turnOf j at k) .line)) 57277 h)
+  further-turn e h = rw (e, le-leb (length (text ++ (turnOf j at k) .line)) mostBefore h)
 
 -- ---- a line laid behind a text
 -- a text at a room's start, and behind it what stood there before
@@ -57,7 +57,7 @@ pub record Filling (j : List ℕ) (from : ℕ) (first : Keeper) (bare : List ℕ
   pub text : List ℕ
   pub laid : room ≡ onto text bare
   pub counted : count ≡ length text
-  pub space : count ≤ 57277
+  pub space : count ≤ mostBefore
   pub lined : length line ≡ 8259
   pub turns : ℕ
   pub enough : length j < at + turns
@@ -91,10 +91,10 @@ module _ (j : List ℕ) (from : ℕ) (first : Keeper) (bare : List ℕ) (at : �
   pub in-line : t .count ≤ length line′
   in-line = let h = count-few in let l = line-length in omega arith
 
-  pub room-for : length room ≡ 65536 → count + t .count ≤ length room
+  pub room-for : length room ≡ batchRoom → count + t .count ≤ length room
   room-for roomy = let h = count-few in let f = g .space in omega (arith, roomy)
 
-  module _ (roomy : length room ≡ 65536) (room′ : List ℕ) (end : ℕ) (put : Put room room′ count (take (t .count) line′) end) where
+  module _ (roomy : length room ≡ batchRoom) (room′ : List ℕ) (end : ℕ) (put : Put room room′ count (take (t .count) line′) end) where
     behind : (end ≡ length (g .text ++ (turnOf j at k) .line)) × (room′ ≡ onto (g .text ++ (turnOf j at k) .line) bare)
     behind =
         let put′ : Put (onto (g .text) bare) room′ (length (g .text)) ((turnOf j at k) .line) end = rw (← g .laid, ← g .counted, ← the-line) put in
@@ -118,10 +118,10 @@ module _ (j : List ℕ) (from : ℕ) (first : Keeper) (bare : List ℕ) (at : �
     pub ended : t .more ≡ false → Laid (batchOf j from first) k′ (record { ledger = k′ .ledger; at = t .at; more = false; count = end }) bare room′
     ended e = whole false e (last-turn (g .turns) j at k (g .text) (sym (took .more) ∙ e))
 
-    pub full : t .more ≡ true → 57277 < end → Laid (batchOf j from first) k′ (record { ledger = k′ .ledger; at = t .at; more = true; count = end }) bare room′
+    pub full : t .more ≡ true → mostBefore < end → Laid (batchOf j from first) k′ (record { ledger = k′ .ledger; at = t .at; more = true; count = end }) bare room′
     full e h = whole true e (full-turn (g .turns) j at k (g .text) (omega (arith, h, behind .0)))
 
-    pub again : t .more ≡ true → end ≤ 57277 → Filling j from first bare (t .at) k′ end room′ line′
+    pub again : t .more ≡ true → end ≤ mostBefore → Filling j from first bare (t .at) k′ end room′ line′
     again e h = by (g .turns) (g .enough) (g .same)
       where
         by : (n : ℕ) → length j < at + n → turnsBehind (suc n) j at k (g .text) ≡ batchOf j from first → Filling j from first bare (t .at) k′ end room′ line′

@@ -25,7 +25,7 @@ use Rattle.replay.specs.Turns.{turnOf}
 use Rattle.replay.specs.Whole.{transcriptOf}
 use Rattle.replay.proofs.Transcribed.{untranscribed}
 use Rattle.nk.specs.declared.batches.Batch.{Batch}
-use Rattle.nk.specs.Batches.{Lines, turnsBehind, batchOf, batchesFrom, textsOf, Laid, Next}
+use Rattle.nk.specs.Batches.{mostBefore, Lines, turnsBehind, batchOf, batchesFrom, textsOf, Laid, Next}
 use Rattle.nk.proofs.Turning.{rest, ahead, next-line, whole}
 use Rattle.nk.proofs.Filling.{over, last-turn, full-turn, further-turn}
 
@@ -46,12 +46,12 @@ behind-over j at k text = record { all = line-behind j at k text; onward = ahead
 a-turn : (n : ℕ) (j : List ℕ) (at : ℕ) (k : Keeper) (text : List ℕ)
     → ((turnOf j at k) .more ≡ true → Behind j at k text (turnsBehind n j ((turnOf j at k) .at) ((turnOf j at k) .keeper) (text ++ (turnOf j at k) .line)))
     → Behind j at k text (turnsBehind (suc n) j at k text)
-a-turn n j at k text on = by ((turnOf j at k) .more) (leb (length (text ++ (turnOf j at k) .line)) 57277) refl refl
+a-turn n j at k text on = by ((turnOf j at k) .more) (leb (length (text ++ (turnOf j at k) .line)) mostBefore) refl refl
   where
-    by : (m f : Bool) → (turnOf j at k) .more ≡ m → leb (length (text ++ (turnOf j at k) .line)) 57277 ≡ f → Behind j at k text (turnsBehind (suc n) j at k text)
+    by : (m f : Bool) → (turnOf j at k) .more ≡ m → leb (length (text ++ (turnOf j at k) .line)) mostBefore ≡ f → Behind j at k text (turnsBehind (suc n) j at k text)
     by false f e g = rw (last-turn n j at k text e) (behind-over j at k text)
-    by true false e g = rw (full-turn n j at k text (leb-false _ 57277 g)) (behind-over j at k text)
-    by true true e g = rw (further-turn n j at k text e (leb-true _ 57277 g)) (on e)
+    by true false e g = rw (full-turn n j at k text (leb-false _ mostBefore g)) (behind-over j at k text)
+    by true true e g = rw (further-turn n j at k text e (leb-true _ mostBefore g)) (on e)
 
 behind : (n : ℕ) (j : List ℕ) (at : ℕ) (k : Keeper) (text : List ℕ) → length j < at + n → Behind j at k text (turnsBehind (suc n) j at k text)
 unfolding pick

@@ -21,9 +21,12 @@ pub record Lines : Type 0 where
   pub more : Bool
   pub text : List ℕ
 
--- the room that lines are gathered in
+-- the room that lines are gathered in, and how full it may be for the longest line to fit still
 abbrev pub batchRoom : ℕ
 batchRoom = 65536
+
+abbrev pub mostBefore : ℕ
+mostBefore = batchRoom - longestLine longest
 
 -- turns whose lines come behind a text, until the replay ends or the longest line would no longer fit the room. n turns at most
 unfoldable pub turnsBehind : ℕ → List ℕ → ℕ → Keeper → List ℕ → Lines
@@ -33,7 +36,7 @@ turnsBehind (suc n) j at k text =
     let lines = text ++ a .line in
     let on = turnsBehind n j (a .at) (a .keeper) lines in
     let over : Lines = record { keeper = a .keeper; at = a .at; more = a .more; text = lines } in
-    pick (a .more) (pick (leb (length lines) (batchRoom - longestLine longest)) on over) over
+    pick (a .more) (pick (leb (length lines) mostBefore) on over) over
 
 -- the batch at a position, on a keeper as it is there. No journal has more turns than bytes, but for the last
 unfoldable pub batchOf : List ℕ → ℕ → Keeper → Lines
