@@ -16,9 +16,6 @@ returns c =
     let long : longest < s .args .len = omega arith in
     rw (← s .pre .1, lt-ltb longest (s .args .len) long)
 
-sub-if2 : tie.Need-sub-if2
-sub-if2 c = search needs
-
 returns-2 : tie.Need-returns-2
 unfolding carrying pick
 returns-2 c =
@@ -26,9 +23,6 @@ returns-2 c =
     let short : s .args .len ≤ longest = omega arith in
     let missing : length (s .args .j .now) - s .args .start < s .args .len = omega arith in
     rw (← s .pre .1, le-ltb longest (s .args .len) short, lt-ltb _ _ missing)
-
-add-t6 : tie.Need-add-t6
-add-t6 c = search needs
 
 returns-3 : tie.Need-returns-3
 unfolding carrying pick
@@ -39,4 +33,4 @@ returns-3 c =
     rw (← s .pre .1, le-ltb longest (s .args .len) short, le-ltb _ _ there)
 
 pub carry-spec : {M : Type 1} → statement M
-carry-spec = tie.close (tie.spec returns sub-if2 returns-2 add-t6 returns-3)
+carry-spec = tie.close (tie.spec returns (λ c. search needs) returns-2 (λ c. search needs) returns-3)

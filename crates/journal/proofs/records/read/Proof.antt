@@ -9,27 +9,6 @@ use Rattle.journal.proofs.records.read.Tie as tie
 returns : tie.Need-returns
 returns c = sym (past _ _ _ (c .if1 .taken))
 
-shared-slice-read-match : tie.Need-shared-slice-read-match
-shared-slice-read-match c = search needs
-
-event-requires : tie.Need-event-requires
-event-requires c κs = search needs
-
-interrupt-requires : tie.Need-interrupt-requires
-interrupt-requires c κs = search needs
-
-write-requires : tie.Need-write-requires
-write-requires c κs = search needs
-
-seed-requires : tie.Need-seed-requires
-seed-requires c κs = search needs
-
-generator-read-requires : tie.Need-generator-read-requires
-generator-read-requires c κs = search needs
-
-blocking-read-requires : tie.Need-blocking-read-requires
-blocking-read-requires c κs = search needs
-
 returns-2 : tie.Need-returns-2
 returns-2 c = of-kind _ _ 1 _ (omega arith) (search) (c .event .ensures)
 
@@ -56,19 +35,5 @@ returns-8 c =
 pub read-spec : {M : Type 1} → statement M
 read-spec =
     tie.close
-    (tie.spec
-    returns
-    shared-slice-read-match
-    event-requires
-    interrupt-requires
-    write-requires
-    seed-requires
-    generator-read-requires
-    blocking-read-requires
-    returns-2
-    returns-3
-    returns-4
-    returns-5
-    returns-6
-    returns-7
-    returns-8)
+    (tie.spec returns (λ c. search needs) (λ c κs. search needs) (λ c κs. search needs) (λ c κs. search needs) (λ c κs. search needs)
+    (λ c κs. search needs) (λ c κs. search needs) returns-2 returns-3 returns-4 returns-5 returns-6 returns-7 returns-8)
