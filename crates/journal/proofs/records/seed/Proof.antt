@@ -5,13 +5,10 @@ use borrow.Author.Needs.{needs}
 use Rattle.journal.proofs.records.seed.Statement.{statement}
 use Rattle.journal.proofs.records.seed.Tie as tie
 
-carry-requires : tie.Need-carry-requires
-unfolding carries
-carry-requires c κs = search needs
-
 pub seed-spec : {M : Type 1} → statement M
+unfolding carries
 seed-spec =
     tie.close
     (tie.spec (λ c. search needs) (λ c. off _ _ _ _ _ _ (seed-kind _ _) (omega arith) (omega arith)) (λ c. search needs) (λ c κs. search needs)
-    (λ c. search needs) (λ c κs. search needs) (λ c. search needs) (λ c. search needs) (λ c κs. search needs) (λ c. search needs) carry-requires
-    (λ c. carried _ _ _ _ _ _ (seed-kind _ _) _ _ _ (cc) (omega arith) (omega arith) (c .carry .ensures)))
+    (λ c. search needs) (λ c κs. search needs) (λ c. search needs) (λ c. search needs) (λ c κs. search needs) (λ c. search needs)
+    (λ c κs. search needs) (λ c. carried _ _ _ _ _ _ (seed-kind _ _) _ _ _ (cc) (omega arith) (omega arith) (c .carry .ensures)))
