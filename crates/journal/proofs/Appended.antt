@@ -1,16 +1,14 @@
 -- APPENDING: a journal that ends with 0 goes on where it ended.
-use mathlib.Core.Path.{_≡_, refl, sym, ap, _∙_}
-use mathlib.Core.Bool.{Bool, true, false}
+use mathlib.Core.Path.{_≡_, sym, ap, _∙_}
 use mathlib.Core.List.{List, _++_}
 use Prim.Native.Nat.{ℕ, _≤_}
 use native.Mathlib.Omega.{arith}
-use borrow.Author.Tests.{eqb-true, eqb-false}
-use lib.Dec.{eqb}
 use lib.ListN.{length}
 use Rattle.journal.specs.Header.{largest, recordsBegin, headerOf}
 use Rattle.journal.specs.Walking.{entry, Walk, onto, walk, walkOf, endingOf}
 use Rattle.journal.specs.Writing.{joined}
 use Rattle.journal.specs.declared.heading.Heading.{Heading}
+use Rattle.journal.proofs.Sides.{by-same}
 use Rattle.journal.proofs.Onward.{read-ahead, stop-not-0, end-past}
 use Rattle.journal.proofs.Told.{read-on}
 use Rattle.journal.proofs.Walks.{along, walk-one, walk-stop, walk-end, good-walk, bad-walk}
@@ -37,11 +35,7 @@ module _ (v : ℕ) (j more : List ℕ) where
 
 -- a journal that ends with 0 has a good header
 pub ends-well : (j : List ℕ) → endingOf j ≡ 0 → headerOf j .number ≡ 0
-ends-well j e = by (eqb (headerOf j .number) 0) refl
-  where
-    by : (b : Bool) → eqb (headerOf j .number) 0 ≡ b → headerOf j .number ≡ 0
-    by true q = eqb-true (headerOf j .number) 0 q
-    by false q = let h = eqb-false (headerOf j .number) 0 q in absurd (h (sym (ap number (bad-walk j h)) ∙ e))
+ends-well j e = by-same (headerOf j .number) 0 (λ h. h) (λ h. absurd (h (sym (ap number (bad-walk j h)) ∙ e)))
 
 -- THE APPENDING, of whole journals
 pub append-journal : (j more : List ℕ) → endingOf j ≡ 0 → length (j ++ more) ≤ largest → walkOf (j ++ more) ≡ joined (walkOf j) (walk 1 (j ++ more) (length j))

@@ -1,44 +1,36 @@
 -- THE LAWS of a journal that is cut anywhere, and of one that is cut where its walk stops.
 use mathlib.Core.Path.{_≡_, refl, sym, ap, _∙_}
-use mathlib.Core.Bool.{Bool, true, false}
 use mathlib.Core.List.{List}
 use Prim.Native.Nat.{ℕ, _≤_, min}
 use native.Mathlib.Omega.{arith}
-use borrow.Author.Tests.{eqb-true, eqb-false, ltb-true, ltb-false}
-use lib.Dec.{ltb, eqb}
+use borrow.Author.Tests.{ne-eqb}
 use lib.ListN.{length, take, length-take}
 use lib.Seq.{take-all, take-length}
 use Rattle.ledger.specs.Choice.{pick}
 use Rattle.journal.specs.Header.{recordsBegin, headerOf}
 use Rattle.journal.specs.Walking.{Walk, walk, behind, walkOf, endingOf}
 use Rattle.journal.specs.Cutting.{upTo, cutNumber, cutWalk, walkWithin}
+use Rattle.journal.proofs.Sides.{by-less, by-same}
 use Rattle.journal.proofs.GoodHeader.{header-good, heading-good, header-cut, header-kept}
 use Rattle.journal.proofs.Walks.{good-walk, bad-walk}
 use Rattle.journal.proofs.CutWalks.{stops-ahead, none-before, first-of-them, all-up-to, stop-boundary, reaches, walk-cut}
 
 -- a cut behind the last byte leaves all
 as-far : (n : ℕ) (j : List ℕ) → take n j ≡ take (min n (length j)) j
-as-far n j = side (ltb n (length j)) refl
-  where
-    side : (b : Bool) → ltb n (length j) ≡ b → take n j ≡ take (min n (length j)) j
-    side true b = let l = ltb-true n (length j) b in let m : min n (length j) ≡ n = omega arith in ap (λ k. take k j) (sym m)
-    side false b =
-        let l = ltb-false n (length j) b in
-        let m : min n (length j) ≡ length j = omega arith in
-        take-all n j l ∙ sym (take-length j) ∙ ap (λ k. take k j) (sym m)
+as-far n j =
+    by-less n (length j) (λ l. let m : min n (length j) ≡ n = omega arith in ap (λ k. take k j) (sym m))
+    (λ l. let m : min n (length j) ≡ length j = omega arith in take-all n j l ∙ sym (take-length j) ∙ ap (λ k. take k j) (sym m))
 
 -- THE CUT, of any journal at any byte
 pub cut : (n : ℕ) (j : List ℕ) → walkOf (take n j) ≡ walkWithin (min n (length j)) j
 unfolding walkWithin behind pick
-cut n j = rw (← header-cut n j) (by (eqb (headerOf (take n j) .number) 0) refl)
-  where
-    by : (b : Bool) → eqb (headerOf (take n j) .number) 0 ≡ b → walkOf (take n j) ≡ behind (headerOf (take n j)) (λ v at. cutWalk (min n (length j)) v j at (walk v j at))
-    by true e =
-        let h = eqb-true (headerOf (take n j) .number) 0 e in
-        let w = header-good (take n j) h .there in
-        let m : recordsBegin ≤ min n (length j) = omega (arith, w, length-take n j) in
-        rw (heading-good (take n j) h) (good-walk (take n j) h ∙ ap (λ (k : List ℕ). walk 1 k recordsBegin) (as-far n j) ∙ walk-cut 1 (min n (length j)) j recordsBegin m)
-    by false e = rw e (bad-walk (take n j) (eqb-false (headerOf (take n j) .number) 0 e))
+cut n j =
+    rw (← header-cut n j)
+    (by-same (headerOf (take n j) .number) 0
+    (λ h. let w = header-good (take n j) h .there in
+    let m : recordsBegin ≤ min n (length j) = omega (arith, w, length-take n j) in
+    rw (heading-good (take n j) h) (good-walk (take n j) h ∙ ap (λ (k : List ℕ). walk 1 k recordsBegin) (as-far n j) ∙ walk-cut 1 (min n (length j)) j recordsBegin m))
+    (λ h. rw (ne-eqb (headerOf (take n j) .number) 0 h) (bad-walk (take n j) h)))
 
 -- its entries, and the number that ends it
 pub cut-entries : (n : ℕ) (j : List ℕ) → walkOf (take n j) .entries ≡ walkWithin (min n (length j)) j .entries
@@ -54,16 +46,11 @@ cut-behind n j good h = rw (good-walk (take n j) (header-kept n j h good), good-
 -- its entries are the first of the whole's, as many as end within the cut
 pub cut-first : (n : ℕ) (j : List ℕ) → headerOf j .number ≡ 0 → walkOf (take n j) .entries ≡ take (length (upTo n (walkOf j .entries))) (walkOf j .entries)
 unfolding cutWalk
-cut-first n j good = side (ltb n recordsBegin) refl
-  where
-    side : (b : Bool) → ltb n recordsBegin ≡ b → walkOf (take n j) .entries ≡ take (length (upTo n (walkOf j .entries))) (walkOf j .entries)
-    side true b =
-        let l = ltb-true n recordsBegin b in
-        let none = bad-walk (take n j) (λ h. omega (arith, l, header-good (take n j) h .there, length-take n j)) in
-        rw (none, good-walk j good, none-before 1 j n recordsBegin (omega (arith, l))) refl
-    side false b =
-        let c = cut-behind n j good (ltb-false n recordsBegin b) in
-        rw (c, good-walk j good) (first-of-them 1 n j recordsBegin)
+cut-first n j good =
+    by-less n recordsBegin
+    (λ l. let none = bad-walk (take n j) (λ h. omega (arith, l, header-good (take n j) h .there, length-take n j)) in
+    rw (none, good-walk j good, none-before 1 j n recordsBegin (omega (arith, l))) refl)
+    (λ l. rw (cut-behind n j good l, good-walk j good) (first-of-them 1 n j recordsBegin))
 
 -- SALVAGE: cut where its walk stops, a journal with a good header has all its records, and ends with 0
 pub salvaged-walk : (j : List ℕ) → headerOf j .number ≡ 0 → walkOf (take (walkOf j .stop) j) ≡ record { entries = walkOf j .entries; stop = walkOf j .stop; number = 0 }

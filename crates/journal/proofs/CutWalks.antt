@@ -1,11 +1,10 @@
 -- What a cut leaves of a walk: the entries that end within it, no more and no fewer, and the number that is then found behind them.
 use mathlib.Core.Path.{_≡_, refl, sym, ap, _∙_}
-use mathlib.Core.Bool.{Bool, true, false}
+use mathlib.Core.Bool.{true, false}
 use mathlib.Core.List.{List, [], _∷_}
 use Prim.Native.Nat.{ℕ, _+_, _≤_, _<_}
 use native.Mathlib.Omega.{arith}
-use borrow.Author.Tests.{leb-true, leb-false, ltb-true, ltb-false, le-leb, lt-leb, eq-eqb, ne-eqb}
-use lib.Dec.{leb, ltb}
+use borrow.Author.Tests.{le-leb, lt-leb, eq-eqb, ne-eqb}
 use lib.ListN.{length, take, drop}
 use Rattle.ledger.specs.Choice.{pick}
 use Rattle.ledger.specs.Numbers.{cutShort}
@@ -14,44 +13,35 @@ use Rattle.journal.specs.Walking.{Entry, entry, onto, halt, walk}
 use Rattle.journal.specs.Cutting.{upTo, reached, boundary, enough, cutNumber, cutWalk}
 use Rattle.journal.specs.declared.records.Record.{Record}
 use Rattle.journal.specs.declared.records.Found.the-variants.{One, Stop, End}
+use Rattle.journal.proofs.Sides.{by-less}
 use Rattle.journal.proofs.Onward.{read-ahead, told-by, end-past}
 use Rattle.journal.proofs.Told.{none-to-tell, read-kept, read-off, read-none, read-shorter}
-use Rattle.journal.proofs.Walks.{along, walk-one, walk-stop, walk-end}
+use Rattle.journal.proofs.Walks.{along, along-walk, walk-one, walk-stop, walk-end}
 
 -- ---- where a walk goes
 module _ (v : ℕ) (j : List ℕ) where
   -- onward
   pub stops-ahead : (at : ℕ) → at ≤ walk v j at .stop
-  stops-ahead =
-      along v j (λ at. at ≤ walk v j at .stop)
-      (λ at r next e on. rw (walk-one v j at r next e) (omega (arith, on, read-ahead v j at r next e .0)))
-      (λ at n e. rw (walk-stop v j at n e) (omega arith))
-      (λ at e. rw (walk-end v j at e) (omega arith))
+  stops-ahead = along-walk v j (λ at w. at ≤ w .stop) (λ at r next e on. omega (arith, on, read-ahead v j at r next e .0)) (λ at n. omega arith)
 
   -- and from a position within the journal it stops within it
   pub stops-within : (at : ℕ) → at ≤ length j → walk v j at .stop ≤ length j
-  stops-within =
-      along v j (λ at. at ≤ length j → walk v j at .stop ≤ length j)
-      (λ at r next e on h. rw (walk-one v j at r next e) (on (read-ahead v j at r next e .1)))
-      (λ at n e h. rw (walk-stop v j at n e) h)
-      (λ at e h. rw (walk-end v j at e) h)
+  stops-within = along-walk v j (λ at w. at ≤ length j → w .stop ≤ length j) (λ at r next e on h. on (read-ahead v j at r next e .1)) (λ at n h. h)
 
   -- no entry ends at or before the position where it begins
   pub none-before : (n at : ℕ) → n ≤ at → upTo n (walk v j at .entries) ≡ []
   unfolding upTo pick
   none-before n =
-      along v j (λ at. n ≤ at → upTo n (walk v j at .entries) ≡ [])
-      (λ at r next e on h. let a = read-ahead v j at r next e .0 in rw (walk-one v j at r next e, lt-leb next n (omega (arith, a, h))) (on (omega (arith, a, h))))
-      (λ at m e h. rw (walk-stop v j at m e) refl)
-      (λ at e h. rw (walk-end v j at e) refl)
+      along-walk v j (λ at w. n ≤ at → upTo n (w .entries) ≡ [])
+      (λ at r next e on h. let a = read-ahead v j at r next e .0 in rw (lt-leb next n (omega (arith, a, h))) (on (omega (arith, a, h))))
+      (λ at m h. refl)
 
   no-boundary-before : (n at : ℕ) → n < at → boundary n at (walk v j at .entries) ≡ false
   unfolding boundary pick
   no-boundary-before n =
-      along v j (λ at. n < at → boundary n at (walk v j at .entries) ≡ false)
-      (λ at r next e on h. let a = read-ahead v j at r next e .0 in rw (walk-one v j at r next e, ne-eqb n at (λ q. omega (arith, q, h))) (on (omega (arith, a, h))))
-      (λ at m e h. rw (walk-stop v j at m e) (ne-eqb n at (λ q. omega (arith, q, h))))
-      (λ at e h. rw (walk-end v j at e) (ne-eqb n at (λ q. omega (arith, q, h))))
+      along-walk v j (λ at w. n < at → boundary n at (w .entries) ≡ false)
+      (λ at r next e on h. let a = read-ahead v j at r next e .0 in rw (ne-eqb n at (λ q. omega (arith, q, h))) (on (omega (arith, a, h))))
+      (λ at m h. ne-eqb n at (λ q. omega (arith, q, h)))
 
   cut-before : (n at : ℕ) → n < at → cutNumber n v j at (walk v j at) ≡ cutShort
   unfolding cutNumber pick
@@ -63,46 +53,34 @@ module _ (v : ℕ) (j : List ℕ) where
   pub all-up-to : (n at : ℕ) → walk v j at .stop ≤ n → upTo n (walk v j at .entries) ≡ walk v j at .entries
   unfolding upTo pick
   all-up-to n =
-      along v j (λ at. walk v j at .stop ≤ n → upTo n (walk v j at .entries) ≡ walk v j at .entries)
-      (λ at r next e on h.
-      let k : walk v j next .stop ≤ n = rw (walk-one v j at r next e) at h in
-      rw (walk-one v j at r next e, le-leb next n (omega (arith, k, stops-ahead next))) (ap (λ (es : List Entry). entry at r next ∷ es) (on k)))
-      (λ at m e h. rw (walk-stop v j at m e) refl)
-      (λ at e h. rw (walk-end v j at e) refl)
+      along-walk v j (λ at w. w .stop ≤ n → upTo n (w .entries) ≡ w .entries)
+      (λ at r next e on h. rw (le-leb next n (omega (arith, h, stops-ahead next))) (ap (λ (es : List Entry). entry at r next ∷ es) (on h)))
+      (λ at m h. refl)
 
   pub stop-boundary : (at : ℕ) → boundary (walk v j at .stop) at (walk v j at .entries) ≡ true
   unfolding boundary pick
   stop-boundary =
-      along v j (λ at. boundary (walk v j at .stop) at (walk v j at .entries) ≡ true)
-      (λ at r next e on. rw (walk-one v j at r next e, ne-eqb (walk v j next .stop) at (λ q. omega (arith, q, stops-ahead next, read-ahead v j at r next e .0))) on)
-      (λ at m e. rw (walk-stop v j at m e) (eq-eqb at at refl))
-      (λ at e. rw (walk-end v j at e) (eq-eqb at at refl))
+      along-walk v j (λ at w. boundary (w .stop) at (w .entries) ≡ true)
+      (λ at r next e on. rw (ne-eqb (walk v j next .stop) at (λ q. omega (arith, q, stops-ahead next, read-ahead v j at r next e .0))) on)
+      (λ at m. eq-eqb at at refl)
 
   pub reaches : (at : ℕ) → reached at (walk v j at .entries) ≡ walk v j at .stop
   unfolding reached
-  reaches =
-      along v j (λ at. reached at (walk v j at .entries) ≡ walk v j at .stop)
-      (λ at r next e on. rw (walk-one v j at r next e) on)
-      (λ at m e. rw (walk-stop v j at m e) refl)
-      (λ at e. rw (walk-end v j at e) refl)
+  reaches = along-walk v j (λ at w. reached at (w .entries) ≡ w .stop) (λ at r next e on. on) (λ at m. refl)
 
 -- ---- the entries up to a cut are the first of them
 first-then : (n : ℕ) (e : Entry) (es : List Entry) → upTo n es ≡ take (length (upTo n es)) es → (n < e .next → upTo n es ≡ [])
     → upTo n (e ∷ es) ≡ take (length (upTo n (e ∷ es))) (e ∷ es)
 unfolding upTo pick
-first-then n e es on none = side (leb (e .next) n) refl
-  where
-    side : (b : Bool) → leb (e .next) n ≡ b → upTo n (e ∷ es) ≡ take (length (upTo n (e ∷ es))) (e ∷ es)
-    side true b = rw b (ap (λ (l : List Entry). e ∷ l) on)
-    side false b = rw (b, none (leb-false (e .next) n b)) refl
+first-then n e es on none =
+    by-less n (e .next) (λ h. rw (lt-leb (e .next) n h, none h) refl) (λ h. rw (le-leb (e .next) n h) (ap (λ (l : List Entry). e ∷ l) on))
 
 pub first-of-them : (v n : ℕ) (j : List ℕ) (at : ℕ) → upTo n (walk v j at .entries) ≡ take (length (upTo n (walk v j at .entries))) (walk v j at .entries)
 unfolding upTo
 first-of-them v n j =
-    along v j (λ at. upTo n (walk v j at .entries) ≡ take (length (upTo n (walk v j at .entries))) (walk v j at .entries))
-    (λ at r next e on. rw (walk-one v j at r next e) (first-then n (entry at r next) (walk v j next .entries) on (λ l. none-before v j n next (omega (arith, l)))))
-    (λ at m e. rw (walk-stop v j at m e) refl)
-    (λ at e. rw (walk-end v j at e) refl)
+    along-walk v j (λ at w. upTo n (w .entries) ≡ take (length (upTo n (w .entries))) (w .entries))
+    (λ at r next e on. first-then n (entry at r next) (walk v j next .entries) on (λ l. none-before v j n next (omega (arith, l))))
+    (λ at m. refl)
 
 -- ---- the cut
 module _ (v n : ℕ) (j : List ℕ) where
@@ -119,37 +97,25 @@ module _ (v n : ℕ) (j : List ℕ) where
   at-the-cut at h = rw (walk-end v (take n j) at (read-none v n j at (omega (arith, h))), h, none-before v j n n (omega arith), here (walk v j n .entries)) refl
 
   before-the-cut : (at : ℕ) → (at < n → Kept at) → at ≤ n → Kept at
-  before-the-cut at f h = side (ltb at n) refl
-    where
-      side : (b : Bool) → ltb at n ≡ b → Kept at
-      side true b = f (ltb-true at n b)
-      side false b = let l = ltb-false at n b in at-the-cut at (omega (arith, h, l))
+  before-the-cut at f h = by-less at n f (λ l. at-the-cut at (omega (arith, h, l)))
 
   at-one : (at : ℕ) (r : Record) (next : ℕ) → readAt v j at ≡ One r next → (next ≤ n → Kept next) → at < n → Kept at
   unfolding cutWalk cutNumber reached boundary upTo pick
-  at-one at r next e on h = side (leb next n) refl
-    where
-      side : (b : Bool) → leb next n ≡ b → Kept at
-      side true b =
-          let l = leb-true next n b in
-          rw (walk-one v (take n j) at r next (read-shorter v n j at r next e l), walk-one v j at r next e, b, ne-eqb n at (λ q. omega (arith, q, h)))
-          (ap (onto (entry at r next)) (on l))
-      side false b =
-          let l = leb-false next n b in
-          let t = told-by v j at r next e in
-          let c = cut-before v j n next l in
-          rw (walk-stop v (take n j) at cutShort (read-off v n j at h (omega (arith, t, l))), walk-one v j at r next e, b, ne-eqb n at (λ q. omega (arith, q, h)), none-before v j n next (omega (arith, l)))
-          (ap (halt at) (sym c))
+  at-one at r next e on h =
+      by-less n next
+      (λ l. let t = told-by v j at r next e in
+      rw (walk-stop v (take n j) at cutShort (read-off v n j at h (omega (arith, t, l))), walk-one v j at r next e, lt-leb next n l, ne-eqb n at (λ q. omega (arith, q, h)), none-before v j n next (omega (arith, l)))
+      (ap (halt at) (sym (cut-before v j n next l))))
+      (λ l. rw (walk-one v (take n j) at r next (read-shorter v n j at r next e l), walk-one v j at r next e, le-leb next n l, ne-eqb n at (λ q. omega (arith, q, h)))
+      (ap (onto (entry at r next)) (on l)))
 
   at-stop : (at m : ℕ) → readAt v j at ≡ Stop m → at < n → Kept at
   unfolding cutWalk cutNumber reached boundary upTo pick
-  at-stop at m e h = side (leb (at + enough v (drop at j)) n) refl
-    where
-      side : (b : Bool) → leb (at + enough v (drop at j)) n ≡ b → Kept at
-      side true b =
-          rw (walk-stop v (take n j) at m (read-kept v n j at h (leb-true (at + enough v (drop at j)) n b) ∙ e), walk-stop v j at m e, ne-eqb n at (λ q. omega (arith, q, h)), b) refl
-      side false b =
-          rw (walk-stop v (take n j) at cutShort (read-off v n j at h (leb-false (at + enough v (drop at j)) n b)), walk-stop v j at m e, ne-eqb n at (λ q. omega (arith, q, h)), b) refl
+  at-stop at m e h =
+      let told = at + enough v (drop at j) in
+      by-less n told
+      (λ l. rw (walk-stop v (take n j) at cutShort (read-off v n j at h l), walk-stop v j at m e, ne-eqb n at (λ q. omega (arith, q, h)), lt-leb told n l) refl)
+      (λ l. rw (walk-stop v (take n j) at m (read-kept v n j at h l ∙ e), walk-stop v j at m e, ne-eqb n at (λ q. omega (arith, q, h)), le-leb told n l) refl)
 
   at-end : (at : ℕ) → readAt v j at ≡ End → at < n → Kept at
   unfolding cutWalk cutNumber reached boundary upTo pick

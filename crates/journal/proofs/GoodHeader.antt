@@ -6,7 +6,6 @@ use mathlib.Core.List.{List, _++_}
 use Prim.Native.Nat.{ℕ, suc, _-_, _≤_, _<_, min}
 use native.Mathlib.Omega.{arith}
 use borrow.Author.Tests.{ltb-false, lt-ltb, le-ltb, eqb-true, eq-eqb, ne-eqb, not-false}
-use lib.Dec.{ltb, eqb}
 use lib.ListN.{length, getD, take, drop, length-take, length-drop, length-append, List·getD-append}
 use lib.Seq.{getD-take, take-append-le, drop-append-le}
 use Rattle.ledger.specs.Choice.{pick}
@@ -15,6 +14,7 @@ use Rattle.words.specs.Bytes.{leNumber}
 use Rattle.journal.specs.Reading.{num}
 use Rattle.journal.specs.Header.{largest, recordsBegin, heading, refusalWithin, headerWithin, headerOf}
 use Rattle.journal.specs.declared.heading.Heading.{Heading}
+use Rattle.journal.proofs.Sides.{by-less, by-same}
 use Rattle.journal.proofs.Runs.{payload-cut}
 
 -- n bytes of a good header's journal
@@ -103,11 +103,7 @@ refusalOf j = refusalWithin (length j) j
 -- ---- the header, by that number
 pub header-number : (j : List ℕ) → headerOf j .number ≡ refusalOf j
 unfolding headerOf headerWithin pick
-header-number j = by (eqb (refusalOf j) 0) refl
-  where
-    by : (b : Bool) → eqb (refusalOf j) 0 ≡ b → headerOf j .number ≡ refusalOf j
-    by true e = rw e (sym (eqb-true (refusalOf j) 0 e))
-    by false e = rw e refl
+header-number j = by-same (refusalOf j) 0 (λ e. rw (eq-eqb _ 0 e) (sym e)) (λ h. rw (ne-eqb _ 0 h) refl)
 
 module _ (j : List ℕ) where
   pub header-good : headerOf j .number ≡ 0 → GoodHeader (length j) j
@@ -138,23 +134,17 @@ module _ (n : ℕ) (i k : List ℕ) (same : (at : ℕ) → at < n → getD i at 
   -- five bytes have a say, and each only where it is there
   by-five : refusalWithin n i ≡ refusalWithin n k
   unfolding refusalWithin pick
-  by-five = mark (ltb n 3) refl
-    where
-      start : (b : Bool) → ltb n 5 ≡ b → 3 ≤ n → refusalWithin n i ≡ refusalWithin n k
-      start true b h = rw (b, same 0 (omega arith), same 1 (omega arith), same 2 (omega arith)) refl
-      start false b h = rw (version (ltb-false n 5 b), same 0 (omega arith), same 1 (omega arith), same 2 (omega arith)) refl
-
-      mark : (b : Bool) → ltb n 3 ≡ b → refusalWithin n i ≡ refusalWithin n k
-      mark true b = rw b refl
-      mark false b = start (ltb n 5) refl (ltb-false n 3 b)
+  by-five =
+      by-less n 3 (λ h. rw (lt-ltb n 3 h) refl)
+      (λ h. by-less n 5 (λ s. rw (lt-ltb n 5 s, same 0 (omega arith), same 1 (omega arith), same 2 (omega arith)) refl)
+      (λ s. rw (version s, same 0 (omega arith), same 1 (omega arith), same 2 (omega arith)) refl))
 
   same-header : headerWithin n i ≡ headerWithin n k
   unfolding headerWithin pick
-  same-header = by (eqb (refusalWithin n k) 0) refl
-    where
-      by : (b : Bool) → eqb (refusalWithin n k) 0 ≡ b → headerWithin n i ≡ headerWithin n k
-      by true e = let w = refusal-good n k (eqb-true (refusalWithin n k) 0 e) .there in rw (by-five, e, version (omega arith)) refl
-      by false e = rw (by-five, e) refl
+  same-header =
+      by-same (refusalWithin n k) 0
+      (λ e. let w = refusal-good n k e .there in rw (by-five, eq-eqb (refusalWithin n k) 0 e, version (omega arith)) refl)
+      (λ h. rw (by-five, ne-eqb (refusalWithin n k) 0 h) refl)
 
 version-cut : (n : ℕ) (j : List ℕ) → 5 ≤ n → num 2 (take n j) 3 ≡ num 2 j 3
 version-cut n j h = ap leNumber (payload-cut n j 3 2 h)

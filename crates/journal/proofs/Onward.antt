@@ -1,10 +1,10 @@
 -- A record that is read is whole and lies ahead; a number that is found is not 0.
 use mathlib.Core.Path.{_≡_, refl, sym, _∙_}
-use mathlib.Core.Bool.{Bool, true, false}
+use mathlib.Core.Bool.{false}
 use mathlib.Core.List.{List}
 use Prim.Native.Nat.{ℕ, suc, _+_, _-_, _≤_, _<_}
 use native.Mathlib.Omega.{arith}
-use borrow.Author.Tests.{ltb-true, ltb-false, le-ltb}
+use borrow.Author.Tests.{ltb-false, le-ltb}
 use lib.Dec.{ltb, eqb}
 use lib.ListN.{length, getD, drop, length-drop}
 use lib.Seq.{drop-cons}
@@ -17,6 +17,7 @@ use Rattle.journal.specs.Cutting.{telling, enough}
 use Rattle.journal.specs.declared.records.Record.{Record}
 use Rattle.journal.specs.declared.records.Found.{Found}
 use Rattle.journal.specs.declared.records.Found.the-variants.{One, Stop, End}
+use Rattle.journal.proofs.Sides.{by-less}
 use Rattle.journal.proofs.Cut.{past}
 
 -- all that is known of a record that was read: its bytes are these, and they begin behind its kind
@@ -55,12 +56,12 @@ pub opens : (v : ℕ) (j : List ℕ) (at : ℕ) → at < length j → readAt v j
 unfolding readAt front
 opens v j at h = rw (drop-cons j at 0 h) refl
 
+-- so whatever is found there tells
+tells : (v : ℕ) (j : List ℕ) (at : ℕ) (x : Found) → at < length j → readAt v j at ≡ x → Tells v (getD j at 0) (at + 1) (drop (suc at) j) x
+tells v j at x h e = rw (sym (opens v j at h) ∙ e) at (opened-tells v (getD j at 0) (at + 1) (drop (suc at) j))
+
 pub inside : (v : ℕ) (j : List ℕ) (at : ℕ) (x : Found) → (x ≡ End → ⊥) → readAt v j at ≡ x → at < length j
-inside v j at x n e = by (ltb at (length j)) refl
-  where
-    by : (b : Bool) → ltb at (length j) ≡ b → at < length j
-    by true q = ltb-true at (length j) q
-    by false q = absurd (n (sym e ∙ past v j at (ltb-false at (length j) q)))
+inside v j at x n e = by-less at (length j) (λ h. h) (λ h. absurd (n (sym e ∙ past v j at h)))
 
 pub one-is-not-end : (r : Record) (next : ℕ) → One r next ≡ End → ⊥
 one-is-not-end r next e = let z : _≡_ {A = ℕ} 0 1 = cc in omega arith
@@ -74,25 +75,14 @@ stop-is-not-one n r next e = let z : _≡_ {A = ℕ} 0 1 = cc in omega arith
 pub stands : (v : ℕ) (j : List ℕ) (at : ℕ) (r : Record) (next : ℕ) → readAt v j at ≡ One r next → Stands v j at r next
 stands v j at r next e =
     let h = inside v j at (One r next) (one-is-not-end r next) e in
-    let t : Tells v (getD j at 0) (at + 1) (drop (suc at) j) (One r next) = rw (sym (opens v j at h) ∙ e) at (opened-tells v (getD j at 0) (at + 1) (drop (suc at) j)) in
-    record { within = h; whole = t }
+    record { within = h; whole = tells v j at (One r next) h e }
 
 pub stop-not-0 : (v : ℕ) (j : List ℕ) (at n : ℕ) → readAt v j at ≡ Stop n → n ≡ 0 → ⊥
-stop-not-0 v j at n e =
-    let h = inside v j at (Stop n) (stop-is-not-end n) e in
-    let t : Tells v (getD j at 0) (at + 1) (drop (suc at) j) (Stop n) = rw (sym (opens v j at h) ∙ e) at (opened-tells v (getD j at 0) (at + 1) (drop (suc at) j)) in
-    t
+stop-not-0 v j at n e = tells v j at (Stop n) (inside v j at (Stop n) (stop-is-not-end n) e) e
 
 -- at the end there are no more bytes
 pub end-past : (v : ℕ) (j : List ℕ) (at : ℕ) → readAt v j at ≡ End → length j ≤ at
-end-past v j at e = by (ltb at (length j)) refl
-  where
-    by : (b : Bool) → ltb at (length j) ≡ b → length j ≤ at
-    by true q =
-        let h = ltb-true at (length j) q in
-        let t : Tells v (getD j at 0) (at + 1) (drop (suc at) j) End = rw (sym (opens v j at h) ∙ e) at (opened-tells v (getD j at 0) (at + 1) (drop (suc at) j)) in
-        absurd t
-    by false q = ltb-false at (length j) q
+end-past v j at e = by-less at (length j) (λ h. absurd (tells v j at End h e)) (λ h. h)
 
 pub read-ahead : (v : ℕ) (j : List ℕ) (at : ℕ) (r : Record) (next : ℕ) → readAt v j at ≡ One r next → (at < next) × (next ≤ length j)
 read-ahead v j at r next e =

@@ -2,7 +2,7 @@
 -- of a journal that is handed on. Each law has the direction of the goal that it closes.
 use mathlib.Core.Path.{_≡_, refl, sym, ap, ap₂, _∙_}
 use mathlib.Core.Bool.{false}
-use mathlib.Core.List.{List, [], _++_}
+use mathlib.Core.List.{List, [], _∷_, _++_}
 use Prim.Native.Nat.{ℕ, zero, suc, _+_, _-_, _*_, _≤_, _<_}
 use native.Mathlib.Omega.{arith}
 use borrow.Author.Tests.{lt-ltb, le-ltb}
@@ -22,11 +22,14 @@ use Rattle.journal.specs.declared.records.Found.the-variants.{One, Stop}
 use Rattle.journal.proofs.Onward.{opens}
 
 -- ---- numbers
-module _ (j : List ℕ) (at : ℕ) where
-  pub num-1 : at + 1 ≤ length j → num 1 j at ≡ getD j at 0
-  unfolding leNumber
-  num-1 h = rw (drop-cons j at 0 (omega arith)) (omega arith)
+num-1 : (j : List ℕ) (at : ℕ) → num 1 j at ≡ getD j at 0
+unfolding leNumber
+num-1 [] zero = refl
+num-1 [] (suc at) = refl
+num-1 (b ∷ j) zero = omega arith
+num-1 (b ∷ j) (suc at) = num-1 j at
 
+module _ (j : List ℕ) (at : ℕ) where
   pub num-2 : at + 2 ≤ length j → num 2 j at ≡ getD j at 0 + 256 * getD j (at + 1) 0
   unfolding leNumber
   num-2 h =
@@ -50,42 +53,43 @@ module _ (j : List ℕ) (at : ℕ) where
       let e = halves 4 4 h ∙ leNumber-append (take 4 (drop at j)) (take 4 (drop (at + 4) j)) in
       rw (size 4 h) at e
 
--- ---- a kind in version 1: its fields are s bytes, and make a record
-pub record Kind (kind s : ℕ) (j : List ℕ) (at : ℕ) (r : Record) : Type 0 where
+-- ---- a kind in version 1: its fields are s bytes, and make a record, which carries n bytes
+pub record Kind (kind s n : ℕ) (j : List ℕ) (at : ℕ) (r : Record) : Type 0 where
   pub known : eqb (length (widths 1 kind)) 0 ≡ false
   pub size : sum (widths 1 kind) ≡ s
   pub same : recordOf kind (fieldsIn (widths 1 kind) (drop (at + 1) j)) ≡ r
+  pub bytes : carries r ≡ n
 
 module _ (j : List ℕ) (at : ℕ) where
   on : (k n m : ℕ) → k + n ≡ m → drop n (drop (at + k) j) ≡ drop (at + m) j
   on k n m e = let q : at + k + n ≡ at + m = omega arith in drop-drop n (at + k) j ∙ ap (λ (i : ℕ). drop i j) q
 
-  pub event-kind : Kind 1 17 j at (Event (num 4 j (at + 1)) (num 1 j (at + 5)) (num 8 j (at + 6)) (num 4 j (at + 14)))
-  unfolding recordOf fieldsIn widths sum pick
-  event-kind = record { known = refl; size = refl; same = rw (on 1 4 5 refl, on 5 1 6 refl, on 6 8 14 refl) refl }
+  pub event-kind : Kind 1 17 0 j at (Event (num 4 j (at + 1)) (getD j (at + 5) 0) (num 8 j (at + 6)) (num 4 j (at + 14)))
+  unfolding recordOf fieldsIn widths sum carries pick
+  event-kind = record { known = refl; size = refl; same = rw (on 1 4 5 refl, on 5 1 6 refl, on 6 8 14 refl, num-1 j (at + 5)) refl; bytes = refl }
 
-  pub interrupt-kind : Kind 2 24 j at (Interrupt (num 4 j (at + 1)) (num 4 j (at + 5)) (num 8 j (at + 9)) (num 8 j (at + 17)))
-  unfolding recordOf fieldsIn widths sum
-  interrupt-kind = record { known = refl; size = refl; same = rw (on 1 4 5 refl, on 5 4 9 refl, on 9 8 17 refl) refl }
+  pub interrupt-kind : Kind 2 24 0 j at (Interrupt (num 4 j (at + 1)) (num 4 j (at + 5)) (num 8 j (at + 9)) (num 8 j (at + 17)))
+  unfolding recordOf fieldsIn widths sum carries
+  interrupt-kind = record { known = refl; size = refl; same = rw (on 1 4 5 refl, on 5 4 9 refl, on 9 8 17 refl) refl; bytes = refl }
 
-  pub write-kind : Kind 3 6 j at (Write (num 4 j (at + 1)) (num 2 j (at + 5)))
-  unfolding recordOf fieldsIn widths sum
-  write-kind = record { known = refl; size = refl; same = rw (on 1 4 5 refl) refl }
+  pub write-kind : Kind 3 6 (num 2 j (at + 5)) j at (Write (num 4 j (at + 1)) (num 2 j (at + 5)))
+  unfolding recordOf fieldsIn widths sum carries
+  write-kind = record { known = refl; size = refl; same = rw (on 1 4 5 refl) refl; bytes = refl }
 
-  pub seed-kind : Kind 4 10 j at (Seed (num 4 j (at + 1)) (num 2 j (at + 5)) (num 4 j (at + 7)))
-  unfolding recordOf fieldsIn widths sum
-  seed-kind = record { known = refl; size = refl; same = rw (on 1 4 5 refl, on 5 2 7 refl) refl }
+  pub seed-kind : Kind 4 10 (num 2 j (at + 5)) j at (Seed (num 4 j (at + 1)) (num 2 j (at + 5)) (num 4 j (at + 7)))
+  unfolding recordOf fieldsIn widths sum carries
+  seed-kind = record { known = refl; size = refl; same = rw (on 1 4 5 refl, on 5 2 7 refl) refl; bytes = refl }
 
-  pub read-kind : Kind 5 6 j at (Read (num 4 j (at + 1)) (num 2 j (at + 5)))
-  unfolding recordOf fieldsIn widths sum
-  read-kind = record { known = refl; size = refl; same = rw (on 1 4 5 refl) refl }
+  pub read-kind : Kind 5 6 0 j at (Read (num 4 j (at + 1)) (num 2 j (at + 5)))
+  unfolding recordOf fieldsIn widths sum carries
+  read-kind = record { known = refl; size = refl; same = rw (on 1 4 5 refl) refl; bytes = refl }
 
-  pub blocking-kind : Kind 6 6 j at (BlockingRead (num 4 j (at + 1)) (num 2 j (at + 5)))
-  unfolding recordOf fieldsIn widths sum
-  blocking-kind = record { known = refl; size = refl; same = rw (on 1 4 5 refl) refl }
+  pub blocking-kind : Kind 6 6 0 j at (BlockingRead (num 4 j (at + 1)) (num 2 j (at + 5)))
+  unfolding recordOf fieldsIn widths sum carries
+  blocking-kind = record { known = refl; size = refl; same = rw (on 1 4 5 refl) refl; bytes = refl }
 
 -- what stands there, by how much of it is there
-module _ (kind s : ℕ) (j : List ℕ) (at : ℕ) (r : Record) (k : Kind kind s j at r) where
+module _ (kind s n : ℕ) (j : List ℕ) (at : ℕ) (r : Record) (k : Kind kind s n j at r) where
   left : length (drop (at + 1) j) ≡ length j - (at + 1)
   left = length-drop (at + 1) j
 
@@ -101,11 +105,11 @@ module _ (kind s : ℕ) (j : List ℕ) (at : ℕ) (r : Record) (k : Kind kind s 
       let d : length (drop (at + 1) j) - s ≡ length j - start = omega arith in
       rw (k .known, k .size, le-ltb (length (drop (at + 1) j)) s (omega arith), k .same, i, d, ← p) g
 
-  pub full : (q : Record) (next : ℕ) → r ≡ q → carries q ≡ 0 → at + 1 + s ≤ length j → next ≡ at + 1 + s → One q next ≡ opened 1 kind (at + 1) (drop (at + 1) j)
+  pub full : (q : Record) (next : ℕ) → r ≡ q → n ≡ 0 → at + 1 + s ≤ length j → next ≡ at + 1 + s → One q next ≡ opened 1 kind (at + 1) (drop (at + 1) j)
   unfolding carrying pick
   full q next i z h p =
       carried (One q next) q next i h p
-      (let o : next ≡ next + 0 = omega arith in rw (z, le-ltb (length j - next) 0 (omega arith)) (ap (One q) o))
+      (let o : next ≡ next + 0 = omega arith in rw (← ap carries i, k .bytes, z, le-ltb (length j - next) 0 (omega arith)) (ap (One q) o))
 
 -- by the kind that stands there
 pub of-kind : (j : List ℕ) (at k : ℕ) (r : Found) → at < length j → getD j at 0 ≡ k → r ≡ opened 1 k (at + 1) (drop (at + 1) j) → r ≡ readAt 1 j at

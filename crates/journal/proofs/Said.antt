@@ -12,23 +12,21 @@ use Rattle.journal.specs.declared.records.Record.{Record}
 use Rattle.journal.proofs.Cut.{past}
 use Rattle.journal.proofs.Runs.{Bytes}
 use Rattle.journal.proofs.Onward.{read-ahead}
-use Rattle.journal.proofs.Walks.{along, walk-one, walk-stop, walk-end}
+use Rattle.journal.proofs.Walks.{along-walk, walk-one, walk-end}
 use Rattle.journal.proofs.Written.{read-written, written-read}
 
 -- A WALK'S RECORDS are the bytes from where it begins to where it stops
 pub bytes-walked : (v : ℕ) (j : List ℕ) → Bytes j → (at : ℕ) → drop at j ≡ written v (saidIn j (walk v j at .entries)) ++ drop (walk v j at .stop) j
 unfolding written saidAt
 bytes-walked v j b =
-    along v j (λ at. drop at j ≡ written v (saidIn j (walk v j at .entries)) ++ drop (walk v j at .stop) j)
+    along-walk v j (λ at w. drop at j ≡ written v (saidIn j (w .entries)) ++ drop (w .stop) j)
     (λ at r next e on.
     let a = read-ahead v j at r next e .0 in
     let n : at + (next - at) ≡ next = omega (arith, a) in
     let d : drop (next - at) (drop at j) ≡ drop next j = drop-drop (next - at) at j ∙ ap (λ (i : ℕ). drop i j) n in
-    rw (walk-one v j at r next e)
-    (sym (take-append-drop (next - at) (drop at j)) ∙ ap₂ _++_ (written-read v j at r next b e) (d ∙ on)
-    ∙ sym (append-assoc (bytesOf v r (carriedBy j r next)) (written v (saidIn j (walk v j next .entries))) (drop (walk v j next .stop) j))))
-    (λ at m e. rw (walk-stop v j at m e) refl)
-    (λ at e. rw (walk-end v j at e) refl)
+    sym (take-append-drop (next - at) (drop at j)) ∙ ap₂ _++_ (written-read v j at r next b e) (d ∙ on)
+    ∙ sym (append-assoc (bytesOf v r (carriedBy j r next)) (written v (saidIn j (walk v j next .entries))) (drop (walk v j next .stop) j)))
+    (λ at m. refl)
 
 -- the bytes that a written record carries are those that it was written with
 pub carried-written : (v : ℕ) (before : List ℕ) (r : Record) (carried rest : List ℕ) → Writable v r carried

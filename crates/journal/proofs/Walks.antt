@@ -61,6 +61,17 @@ module _ (v : ℕ) (j : List ℕ) (at : ℕ) where
   pub walk-end : readAt v j at ≡ End → walk v j at ≡ halt at 0
   walk-end e = unroll v j at ∙ ap (λ (x : Found). step at x (walk v j)) e
 
+-- so what holds of a walk that stands still, and behind a record wherever of the walk from there, holds of every walk
+module _ (v : ℕ) (j : List ℕ) (P : ℕ → Walk → Type 0)
+    (one : (at : ℕ) (r : Record) (next : ℕ) → readAt v j at ≡ One r next → P next (walk v j next) → P at (onto (entry at r next) (walk v j next)))
+    (still : (at n : ℕ) → P at (halt at n)) where
+  pub along-walk : (at : ℕ) → P at (walk v j at)
+  along-walk =
+      along v j (λ at. P at (walk v j at))
+      (λ at r next e on. rw (walk-one v j at r next e) (one at r next e on))
+      (λ at n e. rw (walk-stop v j at n e) (still at n))
+      (λ at e. rw (walk-end v j at e) (still at 0))
+
 -- ---- a whole journal
 module _ (j : List ℕ) where
   pub good-walk : headerOf j .number ≡ 0 → walkOf j ≡ walk 1 j recordsBegin

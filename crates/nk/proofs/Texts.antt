@@ -5,8 +5,8 @@ use mathlib.Core.List.{List, [], _∷_, _++_, flatten, append-assoc, append-nil}
 use Prim.Native.Nat.{ℕ, zero, suc, _+_, _-_, _≤_, _<_}
 use native.Mathlib.Nat.{add-zero}
 use native.Mathlib.Omega.{arith}
-use borrow.Author.Tests.{eqb-true, eqb-false, ne-eqb, leb-true, leb-false, le-leb}
-use lib.Dec.{eqb, leb}
+use borrow.Author.Tests.{ne-eqb, leb-true, leb-false, le-leb}
+use lib.Dec.{leb}
 use lib.ListN.{length, take, drop, getD, length-append, length-drop}
 use lib.Seq.{take-append-seam, getD-drop, drop-drop}
 use Rattle.ledger.specs.Choice.{pick}
@@ -14,6 +14,7 @@ use Rattle.ledger.specs.Sizes.{startBytes}
 use Rattle.journal.specs.Header.{recordsBegin, headerOf, startOf}
 use Rattle.journal.specs.declared.heading.Heading.{Heading}
 use Rattle.journal.proofs.GoodHeader.{heading-good}
+use Rattle.journal.proofs.Sides.{by-same}
 use Rattle.journal.proofs.Laws.{start-48}
 use Rattle.transcript.specs.Lines.{Written, endOf, endIn, atStart, longestEnd}
 use Rattle.keeper.specs.Record.{Outcome, fresh}
@@ -94,11 +95,10 @@ bad j h = rw (ne-eqb (headerOf j .number) 0 h)
 -- THE TEXTS, one behind another, are the transcript
 pub transcript-in-texts : (j : List ℕ) → flatten (textsOf j) ≡ transcriptOf j
 unfolding flatten
-transcript-in-texts j = by (eqb (headerOf j .number) 0) refl
-  where
-    by : (b : Bool) → eqb (headerOf j .number) 0 ≡ b → flatten (textsOf j) ≡ transcriptOf j
-    by true e = let h = eqb-true (headerOf j .number) 0 e in ap flatten (good j h) ∙ from-on (length j) j recordsBegin (fresh (startOf j)) (omega arith) ∙ whole j h
-    by false e = let h = eqb-false (headerOf j .number) 0 e in ap flatten (bad j h) ∙ append-nil _ ∙ sym (untranscribed j h)
+transcript-in-texts j =
+    by-same (headerOf j .number) 0
+    (λ h. ap flatten (good j h) ∙ from-on (length j) j recordsBegin (fresh (startOf j)) (omega arith) ∙ whole j h)
+    (λ h. ap flatten (bad j h) ∙ append-nil _ ∙ sym (untranscribed j h))
 
 -- ---- there are no more texts than bytes
 fewer : (b : Bool) (x : List (List ℕ)) (m : ℕ) → (b ≡ true → length x ≤ m) → length (pick b x []) ≤ m
@@ -115,11 +115,10 @@ few-from (suc n) j at k =
     omega (arith, f)
 
 pub few-texts : (j : List ℕ) → length (textsOf j) ≤ 1 + (length j - recordsBegin)
-few-texts j = by (eqb (headerOf j .number) 0) refl
-  where
-    by : (b : Bool) → eqb (headerOf j .number) 0 ≡ b → length (textsOf j) ≤ 1 + (length j - recordsBegin)
-    by true e = rw (good j (eqb-true (headerOf j .number) 0 e)) (few-from (suc (length j)) j recordsBegin (fresh (startOf j)))
-    by false e = omega (arith, ap length (bad j (eqb-false (headerOf j .number) 0 e)))
+few-texts j =
+    by-same (headerOf j .number) 0
+    (λ h. rw (good j h) (few-from (suc (length j)) j recordsBegin (fresh (startOf j))))
+    (λ h. omega (arith, ap length (bad j h)))
 
 -- ---- the next text
 -- the texts from one on

@@ -1,11 +1,9 @@
 -- A journal that is cut anywhere: what its earlier records did stays, and nothing else is done. Its replay makes the calls of those records of
 -- the whole that end within the cut, writes their lines and leaves the keeper that they leave.
 use mathlib.Core.Path.{_≡_, refl, ap, ap₂, _∙_}
-use mathlib.Core.Bool.{Bool, true, false}
 use mathlib.Core.List.{List, [], _∷_, _++_, map}
 use Prim.Native.Nat.{ℕ, zero, suc, min}
-use borrow.Author.Tests.{eqb-true, eqb-false, eq-eqb, ne-eqb}
-use lib.Dec.{eqb}
+use borrow.Author.Tests.{eq-eqb, ne-eqb}
 use lib.ListN.{length, take}
 use Rattle.ledger.specs.Choice.{pick}
 use Rattle.journal.specs.Header.{recordsBegin, headerOf, startOf}
@@ -13,9 +11,10 @@ use Rattle.journal.specs.Walking.{Entry, Walk, walk, walkOf}
 use Rattle.journal.specs.Cutting.{upTo}
 use Rattle.journal.proofs.Laws.{carried-cut, start-cut}
 use Rattle.journal.proofs.GoodHeader.{header-cut, header-kept}
-use Rattle.journal.proofs.Walks.{along, walk-one, walk-stop, walk-end, good-walk, bad-walk}
+use Rattle.journal.proofs.Walks.{along-walk, good-walk, bad-walk}
 use Rattle.journal.proofs.CutWalks.{stops-ahead}
 use Rattle.journal.proofs.CutJournals.{cut-entries, cut-ending, cut-first, salvaged-walk}
+use Rattle.journal.proofs.Sides.{by-same}
 use Rattle.transcript.specs.Lines.{endOf}
 use Rattle.keeper.specs.Record.{Outcome, fresh}
 use Rattle.keeper.specs.Calls.{Call}
@@ -29,18 +28,13 @@ use Rattle.replay.specs.Cutting.{callsWithin, outcomesWithin, transcript
 -- ---- records that are read of the cut journal are the same calls
 same-calls : (n : ℕ) (j : List ℕ) (at : ℕ) → map (callOf (take n j)) (walk 1 (take n j) at .entries) ≡ map (callOf j) (walk 1 (take n j) at .entries)
 same-calls n j =
-    along 1 (take n j) (λ at. map (callOf (take n j)) (walk 1 (take n j) at .entries) ≡ map (callOf j) (walk 1 (take n j) at .entries))
-    (λ at r next e on. rw (walk-one 1 (take n j) at r next e) (ap₂ (λ (bs : List ℕ) (cs : List Call). callWith bs r ∷ cs) (carried-cut 1 n j at r next e) on))
-    (λ at m e. rw (walk-stop 1 (take n j) at m e) refl)
-    (λ at e. rw (walk-end 1 (take n j) at e) refl)
+    along-walk 1 (take n j) (λ at w. map (callOf (take n j)) (w .entries) ≡ map (callOf j) (w .entries))
+    (λ at r next e on. ap₂ (λ (bs : List ℕ) (cs : List Call). callWith bs r ∷ cs) (carried-cut 1 n j at r next e) on)
+    (λ at m. refl)
 
 -- by the header: where it is not good there is no record
 if-good : (j : List ℕ) (P : Type 0) → (headerOf j .number ≡ 0 → P) → ((headerOf j .number ≡ 0 → ⊥) → walkOf j .entries ≡ [] → P) → P
-if-good j P good bad = by (eqb (headerOf j .number) 0) refl
-  where
-    by : (b : Bool) → eqb (headerOf j .number) 0 ≡ b → P
-    by true e = good (eqb-true (headerOf j .number) 0 e)
-    by false e = let h = eqb-false (headerOf j .number) 0 e in bad h (ap (λ (w : Walk). w .entries) (bad-walk j h))
+if-good j P good bad = by-same (headerOf j .number) 0 good (λ h. bad h (ap (λ (w : Walk). w .entries) (bad-walk j h)))
 
 module _ (n : ℕ) (j : List ℕ) where
   -- what is left is replayed as records of the whole journal

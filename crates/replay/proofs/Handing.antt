@@ -1,13 +1,12 @@
 -- Bytes that a call hands out, in a room that is longer than the call knows.
 use mathlib.Core.Path.{_≡_, refl, sym, ap, _∙_}
-use mathlib.Core.Bool.{Bool, true, false}
 use mathlib.Core.List.{List, [], _∷_, _++_, append-assoc}
 use Prim.Native.Nat.{ℕ, zero, suc, _+_, _≤_, _<_, min}
 use native.Mathlib.Omega.{arith}
 use lib.Dec.{ltb}
 use lib.ListN.{length, take, drop, length-append, length-take, take-append-drop}
 use lib.Seq.{length-take-le, take-append-seam}
-use borrow.Author.Tests.{lt-ltb, ltb-true, ltb-false}
+use borrow.Author.Tests.{lt-ltb, ltb-false}
 use Rattle.ledger.specs.Sizes.{longest}
 use Rattle.ledger.specs.Choice.{pick}
 use Rattle.ledger.specs.Shapes.{blockingShape}
@@ -21,6 +20,7 @@ use Rattle.keeper.specs.Calls.{Call, deviceEvent, interrupted, written, seededW
 use Rattle.keeper.specs.Narrative.{eventCall, interruptCall, writeCall, seedCall, generate, readCall, deliver, blockingCall, act, told}
 use Rattle.keeper.specs.declared.Keeper.{Keeper}
 use Rattle.ledger.specs.declared.Answer.{Answer}
+use Rattle.journal.proofs.Sides.{by-less}
 use Rattle.keeper.proofs.Refusals.{delivered}
 use Rattle.steps.specs.Promise.{Left, left, over, leaves}
 
@@ -127,11 +127,8 @@ front k k′ c a room room′ e =
 -- ---- a read into a room for 4,097 bytes: a part of it is enough, whatever the length
 same-read : (call : ℕ → Call) (k : Keeper) (len n : ℕ) → ((m l : ℕ) → longest < m → longest < l → told k (call m) ≡ told k (call l))
     → n ≡ min len (longest + 1) → told k (call n) ≡ told k (call len)
-same-read call k len n long e = by (ltb longest len) refl
-  where
-    by : (b : Bool) → ltb longest len ≡ b → told k (call n) ≡ told k (call len)
-    by true h = long n len (omega (arith, e, ltb-true longest len h)) (ltb-true longest len h)
-    by false h = let m : n ≡ len = omega (arith, e, ltb-false longest len h) in ap (λ (x : ℕ). told k (call x)) m
+same-read call k len n long e =
+    by-less longest len (λ h. long n len (omega (arith, e, h)) h) (λ h. let m : n ≡ len = omega (arith, e, h) in ap (λ (x : ℕ). told k (call x)) m)
 
 module _ (n len : ℕ) (room : List ℕ) (all : length room ≡ longest + 1) (part : n ≡ min len (longest + 1)) where
   pub as-long : length (take n room) ≡ n

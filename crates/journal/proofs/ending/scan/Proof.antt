@@ -15,9 +15,6 @@ Inv-loop j at₀ at = walk 1 j at .number ≡ endingOf j
 abbrev μ-loop : tie.MeasureT-loop
 μ-loop j at₀ at = length j - at
 
-header-requires : tie.Need-header-requires Inv-loop μ-loop
-header-requires c κs = search needs
-
 returns : tie.Need-returns Inv-loop μ-loop
 returns c =
     let wrong = c .if1 .taken in
@@ -30,15 +27,10 @@ loop-holds c =
     let c : tie.After-header Inv-loop μ-loop = search in
     begun _ _ (c .header .ensures) good
 
-read-requires : tie.Need-read-requires Inv-loop μ-loop
-read-requires c κs = search needs
-
-enum-known-next : tie.Need-enum-known-next Inv-loop μ-loop
-enum-known-next c = search needs
-
 loop-less : tie.Need-loop-less Inv-loop μ-loop
 loop-less c =
-    let known = c .before .next .given .1 in
+    let c : tie.After-next Inv-loop μ-loop = search in
+    let known = c .next .given .1 in
     let c : tie.After-read Inv-loop μ-loop = search in
     let read = sym (c .read .ensures) ∙ known in
     let c : tie.At-loop Inv-loop μ-loop = search in
@@ -47,25 +39,21 @@ loop-less c =
 
 loop-again : tie.Need-loop-again Inv-loop μ-loop
 loop-again c =
-    let known = c .before .next .given .1 in
+    let c : tie.After-next Inv-loop μ-loop = search in
+    let known = c .next .given .1 in
     let c : tie.After-read Inv-loop μ-loop = search in
     let read = sym (c .read .ensures) ∙ known in
     let c : tie.At-loop Inv-loop μ-loop = search in
     past-one _ _ (c .loop .inv) _ _ read
 
-enum-known-number : tie.Need-enum-known-number Inv-loop μ-loop
-enum-known-number c = search needs
-
 returns-2 : tie.Need-returns-2 Inv-loop μ-loop
 returns-2 c =
-    let known = c .before .number .given .1 in
+    let c : tie.After-number Inv-loop μ-loop = search in
+    let known = c .number .given .1 in
     let c : tie.After-read Inv-loop μ-loop = search in
     let read = sym (c .read .ensures) ∙ known in
     let c : tie.At-loop Inv-loop μ-loop = search in
     at-stop _ _ (c .loop .inv) _ read
-
-enum-told : tie.Need-enum-told Inv-loop μ-loop
-enum-told c = search needs
 
 returns-3 : tie.Need-returns-3 Inv-loop μ-loop
 returns-3 c =
@@ -78,17 +66,5 @@ returns-3 c =
 pub scan-spec : {M : Type 1} → statement M
 scan-spec =
     tie.close
-    (tie.spec
-    Inv-loop
-    μ-loop
-    header-requires
-    returns
-    loop-holds
-    read-requires
-    enum-known-next
-    loop-less
-    loop-again
-    enum-known-number
-    returns-2
-    enum-told
-    returns-3)
+    (tie.spec Inv-loop μ-loop (λ c κs. search needs) returns loop-holds (λ c κs. search needs) (λ c. search needs) loop-less loop-again
+    (λ c. search needs) returns-2 (λ c. search needs) returns-3)

@@ -3,14 +3,15 @@ use borrow.Author.Needs.{needs}
 use Rattle.journal.proofs.heading.header.Statement.{statement}
 use Rattle.journal.proofs.heading.header.Tie as tie
 
-refusal-requires : tie.Need-refusal-requires
-refusal-requires c κs = search needs
-
 returns : tie.Need-returns
-returns c = said-bad _ _ (c .before .refusal .ensures) (c .if1 .taken)
+returns c =
+    let r : tie.After-refusal = search in
+    said-bad _ _ (r .refusal .ensures) (c .if1 .taken)
 
 returns-2 : tie.Need-returns-2
-returns-2 c = said-good _ _ (c .before .refusal .ensures) (c .if1 .left)
+returns-2 c =
+    let r : tie.After-refusal = search in
+    said-good _ _ (r .refusal .ensures) (c .if1 .left)
 
 pub header-spec : {M : Type 1} → statement M
-header-spec = tie.close (tie.spec refusal-requires returns returns-2)
+header-spec = tie.close (tie.spec (λ c κs. search needs) returns returns-2)

@@ -1,42 +1,17 @@
-use Prim.Native.Nat.{_-_, _≤_, _<_}
 use borrow.Author.Tests.{lt-ltb, le-ltb}
-use lib.ListN.{length}
 use Rattle.ledger.specs.Choice.{pick}
-use Rattle.ledger.specs.Sizes.{longest}
 use Rattle.journal.specs.Reading.{carrying}
 use native.Mathlib.Omega.{arith}
 use borrow.Author.Needs.{needs}
 use Rattle.journal.proofs.records.carry.Statement.{statement}
 use Rattle.journal.proofs.records.carry.Tie as tie
 
-returns : tie.Need-returns
-unfolding carrying pick
-returns c =
-    let s : tie.Start = search in
-    let long : longest < s .args .len = omega arith in
-    rw (← s .pre .1, lt-ltb longest (s .args .len) long)
-
-sub-if2 : tie.Need-sub-if2
-sub-if2 c = search needs
-
-returns-2 : tie.Need-returns-2
-unfolding carrying pick
-returns-2 c =
-    let s : tie.Start = search in
-    let short : s .args .len ≤ longest = omega arith in
-    let missing : length (s .args .j .now) - s .args .start < s .args .len = omega arith in
-    rw (← s .pre .1, le-ltb longest (s .args .len) short, lt-ltb _ _ missing)
-
-add-t6 : tie.Need-add-t6
-add-t6 c = search needs
-
-returns-3 : tie.Need-returns-3
-unfolding carrying pick
-returns-3 c =
-    let s : tie.Start = search in
-    let short : s .args .len ≤ longest = omega arith in
-    let there : s .args .len ≤ length (s .args .j .now) - s .args .start = omega arith in
-    rw (← s .pre .1, le-ltb longest (s .args .len) short, le-ltb _ _ there)
+ruleset tests = (lt-ltb, le-ltb, arith)
 
 pub carry-spec : {M : Type 1} → statement M
-carry-spec = tie.close (tie.spec returns sub-if2 returns-2 add-t6 returns-3)
+unfolding carrying pick
+carry-spec =
+    tie.close
+    (tie.spec (λ c. let s : tie.Start = search in search (← s .pre .1, tests)) (λ c. search needs)
+    (λ c. let s : tie.Start = search in search (← s .pre .1, tests)) (λ c. search needs)
+    (λ c. let s : tie.Start = search in search (← s .pre .1, tests)))
