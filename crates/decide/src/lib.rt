@@ -2,8 +2,7 @@
 // No function here has a secret among its parameters, and none takes the timer table: what is passed is one device's numbers.
 //
 // `plans` has a function for each definition of `ledger/specs/Plans.antt`; those named `decide_` are for code above, take any values, and
-// answer 17 where something is out of range. `work` has what a plan costs and answers, `numbers` the numbers given back.
-pub mod numbers;
+// answer 17 where something is out of range. `work` has what a plan costs and answers.
 pub mod plans;
 pub mod work;
 

@@ -3,10 +3,10 @@ ghost use mathlib.Core.Path.{_≡_};
 ghost use Rattle.journal.specs.Header.{refusalWithin, headerOf};
 ghost use lib.ListN.{length};
 use crate::fields::two;
-use crate::numbers::CUT_SHORT;
-use crate::numbers::JOURNAL_TOO_LARGE;
-use crate::numbers::MARK_WRONG;
-use crate::numbers::VERSION_WRONG;
+use ledger::numbers::CUT_SHORT;
+use ledger::numbers::JOURNAL_TOO_LARGE;
+use ledger::numbers::MARK_WRONG;
+use ledger::numbers::VERSION_WRONG;
 use ledger::sizes::START_BYTES;
 
 // The most bytes of a journal.

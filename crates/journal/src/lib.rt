@@ -10,7 +10,6 @@
 pub mod ending;
 mod fields;
 pub mod heading;
-pub mod numbers;
 pub mod part;
 pub mod records;
 

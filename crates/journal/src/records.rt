@@ -8,9 +8,9 @@ use crate::fields::eight;
 use crate::fields::four;
 use crate::fields::two;
 use crate::fields::wide;
-use crate::numbers::CUT_SHORT;
-use crate::numbers::TOO_LONG;
-use crate::numbers::UNKNOWN_KIND;
+use ledger::numbers::CUT_SHORT;
+use ledger::numbers::TOO_LONG;
+use ledger::numbers::UNKNOWN_KIND;
 use ledger::sizes::LONGEST;
 
 // A record: its fields. The `len` bytes of a write or a seed are the last before the position after it; `payload` hands them over.

@@ -7,6 +7,7 @@
 // seen), and proofs/ with what follows from these alone: crediting, debiting, "in range stays in range", blocking, the marked cases.
 // The code is in `reckon` (counts, clocks, the range test) and `decide` (the plans of the calls).
 
+pub mod numbers;
 pub mod sizes;
 
 // Where a pool's next byte goes: its position and its rotation.
