@@ -12,10 +12,10 @@ use borrow.Author.Tests.{lt-ltb, le-leb, ltb-true, ltb-false, leb-true, eqb-true
 use Rattle.ledger.specs.Choice.{pick}
 use Rattle.ledger.specs.Shapes.{Shape, inputShape, blockingShape}
 use Rattle.ledger.specs.Places.{stepped, moved, movedBlocks, blocksOf, extractedFrom}
-use Rattle.ledger.specs.Clocks.{signed, clockDiff}
-use Rattle.ledger.specs.Timers.{Timers, timerOf}
+use Rattle.ledger.specs.Clocks.{signed, clockDiff, nextTimer}
+use Rattle.ledger.specs.Timers.{Timers, timerOf, kept}
 use Rattle.ledger.specs.Marks.{counting, valued, tallied, spilled, stays}
-use Rattle.ledger.specs.Range.{View, othersInRange, timerInRange, poolInRange, within, firstInRange, secondInRange, every, fixedWords, sameWords, ledgerInRange, inRange}
+use Rattle.ledger.specs.Range.{View, othersInRange, timerInRange, timersInRange, poolInRange, within, firstInRange, secondInRange, every, fixedWords, sameWords, ledgerInRange, inRange}
 use Rattle.ledger.specs.PublicCalls.{PublicCall, event, interrupt, write, seed, read, blockingRead, brings, deviceOf}
 use Rattle.ledger.specs.Plans.{planOf, idle, feed, transferred, planEvent, planInterrupt, planWrite, planSeed, planRead, planBlockingRead, planCall, decide}
 use Rattle.ledger.specs.Machine.{freshView, inputMoved, blockingMoved, planned, planAt, stepView}
@@ -44,11 +44,10 @@ pub record LedgerFine (l : Ledger) : Type 0 where
   pub blocking : PoolFine blockingShape (l .blocking)
   pub tally : l .spill .tally ≤ 63
 
--- with it each d1 and d2 in range, and generator words 0 to 3
+-- with it all timers in range, and generator words 0 to 3
 pub record Fine (v : View) : Type 0 where
   pub ledger : LedgerFine (v .ledger)
-  pub firsts : every firstInRange (v .timers .firsts) ≡ true
-  pub seconds : every secondInRange (v .timers .seconds) ≡ true
+  pub timers : timersInRange (v .timers) ≡ true
   pub fixed : v .fixed ≡ fixedWords
 
 -- lists of words that the test takes for the same are the same
@@ -97,26 +96,18 @@ pub fine : (v : View) → inRange v ≡ true → Fine v
 unfolding inRange othersInRange
 fine v h =
     let l = ledgerInRange (v .ledger) in
-    let d = every firstInRange (v .timers .firsts) in
-    let e = every secondInRange (v .timers .seconds) in
+    let t = timersInRange (v .timers) in
     let w = sameWords (v .fixed) fixedWords in
-    let q = and-right l ((d && e) && w) h in
-    let t = and-left (d && e) w q in
-    record {
-      ledger = ledger-fine (v .ledger) (and-left l ((d && e) && w) h);
-      firsts = and-left d e t;
-      seconds = and-right d e t;
-      fixed = words-same (v .fixed) fixedWords (and-right (d && e) w q);
-    }
+    let q = and-right l (t && w) h in
+    record { ledger = ledger-fine (v .ledger) (and-left l (t && w) h); timers = and-left t w q; fixed = words-same (v .fixed) fixedWords (and-right t w q) }
 
 pub fine-in-range : (v : View) → Fine v → inRange v ≡ true
 unfolding inRange othersInRange
 fine-in-range v f =
-    let d = every firstInRange (v .timers .firsts) in
-    let e = every secondInRange (v .timers .seconds) in
+    let t = timersInRange (v .timers) in
     let w = sameWords (v .fixed) fixedWords in
     let same : w ≡ true = rw (f .fixed) refl in
-    both (ledgerInRange (v .ledger)) ((d && e) && w) (ledger-tests (v .ledger) (f .ledger)) (both (d && e) w (both d e (f .firsts) (f .seconds)) same)
+    both (ledgerInRange (v .ledger)) (t && w) (ledger-tests (v .ledger) (f .ledger)) (both t w (f .timers) same)
 
 -- ---- places
 -- one byte, whatever the place was
@@ -186,6 +177,31 @@ every-set t (x ∷ xs) zero y h k = both (t y) (every t xs) k (and-right (t x) (
 every-set t (x ∷ xs) (suc i) y h k =
     both (t x) (every t (set xs i y)) (and-left (t x) (every t xs) h) (every-set t xs i y (and-right (t x) (every t xs) h) k)
 
+-- ---- timers
+-- after an event
+pub next-in-range : (now : ℕ) (t : Timer) → timerInRange t ≡ true → timerInRange (nextTimer now t) ≡ true
+next-in-range now t h =
+    let d = clockDiff now (t .clock) in
+    let w = diff-within now (t .clock) in
+    both (firstInRange d) (secondInRange (d -ℤ t .d1)) w (second-within d (t .d1) w (and-left (firstInRange (t .d1)) (secondInRange (t .d2)) h))
+
+-- a device's
+timer-in-range : (ts : Timers) (device : ℕ) → timersInRange ts ≡ true → timerInRange (timerOf ts device) ≡ true
+timer-in-range ts device h =
+    let d = every firstInRange (ts .firsts) in
+    let e = every secondInRange (ts .seconds) in
+    let u = timerOf ts device in
+    both (firstInRange (u .d1)) (secondInRange (u .d2)) (every-at firstInRange (ts .firsts) device (pos 0) (and-left d e h) refl) (every-at secondInRange (ts .seconds) device (pos 0) (and-right d e h) refl)
+
+-- all, after one was kept
+kept-in-range : (ts : Timers) (device : ℕ) (t : Timer) → timersInRange ts ≡ true → timerInRange t ≡ true → timersInRange (kept device t ts) ≡ true
+kept-in-range ts device t h k =
+    let d = every firstInRange (ts .firsts) in
+    let e = every secondInRange (ts .seconds) in
+    let a = firstInRange (t .d1) in
+    let b = secondInRange (t .d2) in
+    both (every firstInRange (set (ts .firsts) device (t .d1))) (every secondInRange (set (ts .seconds) device (t .d2))) (every-set firstInRange (ts .firsts) device (t .d1) (and-left d e h) (and-left a b k)) (every-set secondInRange (ts .seconds) device (t .d2) (and-right d e h) (and-right a b k))
+
 -- ---- plans
 -- another count within its size
 counted : {sh : Shape} {g : Gauge} (c : ℕ) → c ≤ sh .size → PoolFine sh g → PoolFine sh (counting c g)
@@ -194,12 +210,11 @@ counted c h f = record { count = h; placed = f .placed }
 -- a plan that leaves the ledger in range, with a timer in range
 record PlanFine (p : Plan) : Type 0 where
   ledger : LedgerFine (p .ledger)
-  first : firstInRange (p .timer .d1) ≡ true
-  second : secondInRange (p .timer .d2) ≡ true
+  timer : timerInRange (p .timer) ≡ true
 
 -- a plan that keeps no timer and leaves such a ledger
 plain-fine : (number : ℕ) (l : Ledger) (stirs feeds : Bool) (r t d s : ℕ) → LedgerFine l → PlanFine (planOf number l stirs feeds r t d s)
-plain-fine number l stirs feeds r t d s f = record { ledger = f; first = refl; second = refl }
+plain-fine number l stirs feeds r t d s f = record { ledger = f; timer = refl }
 
 -- nothing done
 idle-fine : (n : ℕ) (l : Ledger) → LedgerFine l → PlanFine (idle n l)
@@ -211,18 +226,15 @@ unfolding feed
 feed-fine now stirs n l f =
     record {
       ledger = record { input = counted _ (omega (arith, credited-room 32768 n (l .input .count) (omega arith) (f .input .count))) (f .input); blocking = f .blocking; tally = f .tally };
-      first = refl;
-      second = refl;
+      timer = refl;
     }
 
 -- a device event, whose timer is kept
-event-fine : (device now value : ℕ) (t : Timer) (l : Ledger) → firstInRange (t .d1) ≡ true → LedgerFine l → PlanFine (planEvent device now value t l)
+event-fine : (device now value : ℕ) (t : Timer) (l : Ledger) → timerInRange t ≡ true → LedgerFine l → PlanFine (planEvent device now value t l)
 unfolding planEvent
 event-fine device now value t l h f =
     let g = feed-fine now false _ (valued device value l) (record { input = f .input; blocking = f .blocking; tally = f .tally }) in
-    let d = diff-within now (t .clock) in
-    pick-both PlanFine _ (idle-fine 4 l f) (pick-both PlanFine _ (idle-fine 7 l f)
-    (record { ledger = g .ledger; first = d; second = second-within (clockDiff now (t .clock)) (t .d1) d h }))
+    pick-both PlanFine _ (idle-fine 4 l f) (pick-both PlanFine _ (idle-fine 7 l f) (record { ledger = g .ledger; timer = next-in-range now t h }))
 
 -- an interrupt that only stirs leaves a tally of at most 63
 stay-tally : (b : Bool) (n : ℕ) → (ltb (n + 1) 64 && b) ≡ true → n + 1 ≤ 63
@@ -241,7 +253,7 @@ read-fine : (now len : ℕ) (l : Ledger) → LedgerFine l → PlanFine (planRead
 unfolding planRead
 read-fine now len l f =
     pick-both PlanFine _ (idle-fine 3 l f) (pick-both PlanFine _ (idle-fine 0 l f) (pick-both PlanFine _ (idle-fine 2 l f)
-    (record { ledger = record { input = counted _ (omega (arith, f .input .count)) (f .input); blocking = f .blocking; tally = f .tally }; first = refl; second = refl })))
+    (record { ledger = record { input = counted _ (omega (arith, f .input .count)) (f .input); blocking = f .blocking; tally = f .tally }; timer = refl })))
 
 -- a blocking read
 blocking-fine : (n : ℕ) (l : Ledger) → LedgerFine l → PlanFine (planBlockingRead n l)
@@ -249,10 +261,10 @@ unfolding planBlockingRead
 blocking-fine n l f =
     let r = credited-room 8192 (8 * transferred n l) (l .blocking .count) (omega arith) (f .blocking .count) in
     pick-both PlanFine _ (idle-fine 3 l f) (pick-both PlanFine _ (idle-fine 0 l f) (pick-both PlanFine _ (idle-fine 1 l f)
-    (record { ledger = record { input = counted _ (omega (arith, f .input .count)) (f .input); blocking = counted _ (omega (arith, r)) (f .blocking); tally = f .tally }; first = refl; second = refl })))
+    (record { ledger = record { input = counted _ (omega (arith, f .input .count)) (f .input); blocking = counted _ (omega (arith, r)) (f .blocking); tally = f .tally }; timer = refl })))
 
 -- each call
-plan-fine : (l : Ledger) (t : Timer) (c : PublicCall) → firstInRange (t .d1) ≡ true → LedgerFine l → PlanFine (planCall l t c)
+plan-fine : (l : Ledger) (t : Timer) (c : PublicCall) → timerInRange t ≡ true → LedgerFine l → PlanFine (planCall l t c)
 unfolding planCall planWrite planSeed
 plan-fine l t (event device now value) h f = event-fine device now value t l h f
 plan-fine l t (interrupt now number) h f = interrupt-fine now l f
@@ -267,7 +279,7 @@ decide-fine : (v : View) (c : PublicCall) → Fine v → PlanFine (planAt v c)
 unfolding decide
 decide-fine v c f =
     pick-both PlanFine _
-    (plan-fine (v .ledger) _ c (every-at firstInRange (v .timers .firsts) (deviceOf c) (pos 0) (f .firsts) refl) (f .ledger))
+    (plan-fine (v .ledger) _ c (timer-in-range (v .timers) (deviceOf c) (f .timers)) (f .ledger))
     (idle-fine 17 (v .ledger) (f .ledger))
 
 -- ---- a call leaves a fine view fine
@@ -286,8 +298,7 @@ step-fine v c f =
             blocking = record { count = g .ledger .blocking .count; placed = taken-placed blockingShape (p .deliver) _ (omega arith) b };
             tally = g .ledger .tally;
           };
-      firsts = pick-both (λ (ts : Timers). every firstInRange (ts .firsts) ≡ true) (p .keeps) (every-set firstInRange (v .timers .firsts) (deviceOf c) _ (f .firsts) (g .first)) (f .firsts);
-      seconds = pick-both (λ (ts : Timers). every secondInRange (ts .seconds) ≡ true) (p .keeps) (every-set secondInRange (v .timers .seconds) (deviceOf c) _ (f .seconds) (g .second)) (f .seconds);
+      timers = pick-both (λ (ts : Timers). timersInRange ts ≡ true) (p .keeps) (kept-in-range (v .timers) (deviceOf c) (p .timer) (f .timers) (g .timer)) (f .timers);
       fixed = f .fixed;
     }
 
@@ -306,12 +317,7 @@ agree false false t h = refl
 
 timer-fine : (v : View) (device : ℕ) → othersInRange (v .timers) (v .fixed) ≡ true → timerInRange (timerOf (v .timers) device) ≡ true
 unfolding othersInRange
-timer-fine v device h =
-    let d = every firstInRange (v .timers .firsts) in
-    let e = every secondInRange (v .timers .seconds) in
-    let t = and-left (d && e) (sameWords (v .fixed) fixedWords) h in
-    let u = timerOf (v .timers) device in
-    both (firstInRange (u .d1)) (secondInRange (u .d2)) (every-at firstInRange (v .timers .firsts) device (pos 0) (and-left d e t) refl) (every-at secondInRange (v .timers .seconds) device (pos 0) (and-right d e t) refl)
+timer-fine v device h = timer-in-range (v .timers) device (and-left (timersInRange (v .timers)) (sameWords (v .fixed) fixedWords) h)
 
 pub seen-range : (v : View) (device : ℕ)
     → (othersInRange (v .timers) (v .fixed) && (ledgerInRange (v .ledger) && timerInRange (timerOf (v .timers) device))) ≡ inRange v

@@ -17,8 +17,8 @@ use Rattle.ledger.specs.Choice.{pick}
 use Rattle.ledger.specs.Clocks.{signed, clockDiff, exceeds, nextTimer, log2, estimate, eventBits}
 use Rattle.ledger.specs.Range.{firstInRange, secondInRange, timerInRange}
 use Rattle.ledger.specs.declared.Timer.{Timer}
-use Rattle.ledger.proofs.Picks.{and-left, and-right, both}
-use Rattle.ledger.proofs.InRange.{diff-within, second-within}
+use Rattle.ledger.proofs.Picks.{and-left, and-right}
+use Rattle.ledger.proofs.InRange.{diff-within}
 
 -- ---- signed numbers
 -- the two sizes of a number lie within one of each other
@@ -113,13 +113,6 @@ d1-bound t h = first-bound (t .d1) (and-left (firstInRange (t .d1)) (secondInRan
 
 pub d2-bound : (t : Timer) → timerInRange t ≡ true → natAbs (t .d2) < 2 ^ 32
 d2-bound t h = second-bound (t .d2) (and-right (firstInRange (t .d1)) (secondInRange (t .d2)) h)
-
--- the timer after it is in range too
-pub next-in-range : (now : ℕ) (t : Timer) → timerInRange t ≡ true → timerInRange (nextTimer now t) ≡ true
-next-in-range now t h =
-    let d = clockDiff now (t .clock) in
-    both (firstInRange d) (secondInRange (d -ℤ t .d1)) (diff-within now (t .clock))
-    (second-within d (t .d1) (diff-within now (t .clock)) (and-left (firstInRange (t .d1)) (secondInRange (t .d2)) h))
 
 -- ---- the estimate
 -- the floor of log2, from its powers

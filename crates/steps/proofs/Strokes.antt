@@ -13,7 +13,7 @@ use Rattle.ledger.specs.Marks.{withSpots}
 use Rattle.ledger.specs.Range.{othersInRange}
 use Rattle.ledger.specs.PublicCalls.{PublicCall, event, interrupt, write, seed, read, blockingRead, deviceOf}
 use Rattle.ledger.specs.Sizes.{inputWords, blockingWords}
-use Rattle.ledger.specs.Timers.{Timers, timersOf, freshTimer, timerOf, kept}
+use Rattle.ledger.specs.Timers.{Timers, freshTimer, timerOf, kept}
 use Rattle.ledger.specs.Plans.{planCall, decide, answerOf}
 use Rattle.ledger.specs.Machine.{timersAfter, planAt}
 use Rattle.ledger.specs.declared.Ledger.{Ledger}
@@ -44,15 +44,15 @@ use Rattle.steps.proofs.Accepted.{any-timer, Feeds, EventPlan, Interrup
 pub record Planned (k : Keeper) (c : PublicCall) (p : Plan) : Type 0 where
   pub is : p ≡ planAt (view k) c
 
--- the test of what the ledger does not hold, as the code makes it: whatever the clocks
+-- the test of what the ledger does not hold, as the code makes it
 abbrev pub Others : Keeper → Bool → Type 0
-Others k others = (clocks : List ℕ) → others ≡ othersInRange (timersOf clocks (k .firsts) (k .seconds)) (take 4 (k .generator))
+Others k others = others ≡ othersInRange (timersIn k) (take 4 (k .generator))
 
 -- an event is decided with its device's timer
 pub event-decided : (k : Keeper) (device now value : ℕ) (others : Bool) (t : Timer) (p : Plan)
     → Others k others → t ≡ timerOf (timersIn k) device
     → p ≡ decide others (k .ledger) t (event device now value) → Planned k (event device now value) p
-event-decided k device now value others t p eo et ep = record { is = ep ∙ ap₂ (λ (o : Bool) (u : Timer). decide o (k .ledger) u (event device now value)) (eo (k .clocks)) et }
+event-decided k device now value others t p eo et ep = record { is = ep ∙ ap₂ (λ (o : Bool) (u : Timer). decide o (k .ledger) u (event device now value)) eo et }
 
 -- a call that has no device is decided without a timer
 abbrev pub Untimed : PublicCall → Type 0
@@ -81,7 +81,7 @@ blocking-untimed len l t u = refl
 -- .. which is the plan at the record
 pub decided : (k : Keeper) (c : PublicCall) (others : Bool) (p : Plan)
     → Untimed c → Others k others → p ≡ decide others (k .ledger) freshTimer c → Planned k c p
-decided k c others p e eo ep = record { is = ep ∙ ap (λ (o : Bool). decide o (k .ledger) freshTimer c) (eo (k .clocks)) ∙ any-timer (view k) c (e (k .ledger) _ _) }
+decided k c others p e eo ep = record { is = ep ∙ ap (λ (o : Bool). decide o (k .ledger) freshTimer c) eo ∙ any-timer (view k) c (e (k .ledger) _ _) }
 
 -- ---- a refusal
 pub refusal : (k : Keeper) (c : Call) (room : List ℕ) (p : Plan) → Planned k (public c) p → (p .number ≡ 0 → ⊥)

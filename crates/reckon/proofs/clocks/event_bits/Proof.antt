@@ -8,7 +8,8 @@ use mir.Syntax.{w64}
 use mir.Val.{toZ, ofZ}
 use Rattle.ledger.specs.Clocks.{estimate}
 use Rattle.ledger.specs.Range.{timerInRange}
-use Rattle.reckon.proofs.Signs.{back, lies, near, sub-fits, d1-bound, d2-bound, next-in-range, bits-of-next}
+use Rattle.ledger.proofs.InRange.{next-in-range}
+use Rattle.reckon.proofs.Signs.{back, lies, near, sub-fits, d1-bound, d2-bound, bits-of-next}
 use Rattle.reckon.proofs.clocks.event_bits.Statement.{statement}
 use Rattle.reckon.proofs.clocks.event_bits.Tie as tie
 

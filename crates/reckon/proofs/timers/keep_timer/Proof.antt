@@ -1,5 +1,3 @@
-use mathlib.Core.Path.{ap₂}
-use Rattle.ledger.specs.Timers.{timersOf}
 use Rattle.reckon.proofs.Signs.{back}
 use borrow.Author.Needs.{needs}
 use Rattle.reckon.proofs.timers.keep_timer.Statement.{statement}
@@ -12,7 +10,7 @@ returns c =
     let s : tie.Start = search in
     let t = s .args .t in
     let told = b .struct-told .given in
-    ap₂ (timersOf _) (rw (back (t .d1) (told .1 .0 .1)) at (k .keep-difference .ensures)) (rw (back (t .d2) (told .1 .1 .0 .1)) at (c .keep-difference2 .ensures))
+    rw (k .keep-difference .ensures, back (t .d1) (told .1 .0 .1), c .keep-difference2 .ensures, back (t .d2) (told .1 .1 .0 .1))
 
 pub keep-timer-spec : {M : Type 1} → statement M
 keep-timer-spec =

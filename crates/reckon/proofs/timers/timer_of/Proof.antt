@@ -6,10 +6,11 @@ use Rattle.reckon.proofs.timers.timer_of.Tie as tie
 
 returns : tie.Need-returns
 returns c =
+    let d : tie.After-difference-at2 = search in
     let a : tie.After-difference-at = search in
     let b : tie.After-clock-at = search in
     let f = a .difference-at in
-    let s = c .difference-at2 in
+    let s = d .difference-at2 in
     rw (back (f .result) (f .ok), back (s .result) (s .ok), b .clock-at .ensures, f .ensures, s .ensures) refl
 
 pub timer-of-spec : {M : Type 1} → statement M

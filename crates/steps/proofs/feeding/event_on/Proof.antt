@@ -14,7 +14,7 @@ returns c blocking fast =
     let d : tie.After-decide-event = search in
     let u : tie.After-timer-of = search in
     let o : tie.After-others-in-range = search in
-    rw refused (refusal _ (deviceEvent _ _ _ _) [] _ (event-decided _ _ _ _ _ _ _ (o .others-in-range .ensures) (u .timer-of .ensures) (d .decide-event .ensures)) (t .if1 .taken))
+    rw refused (refusal _ (deviceEvent _ _ _ _) [] _ (event-decided _ _ _ _ _ _ _ (o .others-in-range .ensures _) (u .timer-of .ensures) (d .decide-event .ensures)) (t .if1 .taken))
 
 keep-timer-requires : tie.Need-keep-timer-requires
 keep-timer-requires c κs =
@@ -65,7 +65,7 @@ returns-2 c blocking fast =
     let t = c .timer-of .ensures in
     let c : tie.After-others-in-range = search in
     rw done
-    (event-done _ _ _ _ _ _ _ _ _ _ _ _ (event-decided _ _ _ _ _ _ _ (c .others-in-range .ensures) t p) (so (EventPlan _) p (event-plan _ _ _ _ _ _) zero) long kept fed (r .0) (r .1 .0) (r .1 .1))
+    (event-done _ _ _ _ _ _ _ _ _ _ _ _ (event-decided _ _ _ _ _ _ _ (c .others-in-range .ensures _) t p) (so (EventPlan _) p (event-plan _ _ _ _ _ _) zero) long kept fed (r .0) (r .1 .0) (r .1 .1))
 
 pub event-on-spec : {M : Type 1} → statement M
 event-on-spec =

@@ -14,7 +14,7 @@ returns c clocks blocking =
     let t : tie.Then1 = search in
     let d : tie.After-decide-interrupt = search in
     let o : tie.After-others-in-range = search in
-    rw refused (refusal _ (interrupted _ _ _ _) [] _ (decided _ (interrupt _ _) _ _ (interrupt-untimed _ _) (o .others-in-range .ensures) (d .decide-interrupt .ensures)) (t .if1 .taken))
+    rw refused (refusal _ (interrupted _ _ _ _) [] _ (decided _ (interrupt _ _) _ _ (interrupt-untimed _ _) (o .others-in-range .ensures _) (d .decide-interrupt .ensures)) (t .if1 .taken))
 
 spill-requires : tie.Need-spill-requires
 spill-requires c κs =
@@ -58,7 +58,7 @@ returns-2 c clocks blocking =
     let p = c .decide-interrupt .ensures in
     let c : tie.After-others-in-range = search in
     rw done
-    (interrupt-done _ _ _ _ _ _ _ _ _ _ _ _ (decided _ (interrupt _ _) _ _ (interrupt-untimed _ _) (c .others-in-range .ensures) p) (so InterruptPlan p (interrupt-plan _ _ _ _ _) zero) long stirred fed (r .0) (r .1 .0) (r .1 .1))
+    (interrupt-done _ _ _ _ _ _ _ _ _ _ _ _ (decided _ (interrupt _ _) _ _ (interrupt-untimed _ _) (c .others-in-range .ensures _) p) (so InterruptPlan p (interrupt-plan _ _ _ _ _) zero) long stirred fed (r .0) (r .1 .0) (r .1 .1))
 
 pub interrupt-on-spec : {M : Type 1} → statement M
 interrupt-on-spec =

@@ -14,7 +14,7 @@ returns c clocks blocking fast =
     let t : tie.Then1 = search in
     let d : tie.After-decide-seed = search in
     let o : tie.After-others-in-range = search in
-    rw refused (refusal _ (seededWith _ _ _) [] _ (decided _ (seed _ _ _) _ _ (seed-untimed _ _ _) (o .others-in-range .ensures) (d .decide-seed .ensures)) (t .if1 .taken))
+    rw refused (refusal _ (seededWith _ _ _) [] _ (decided _ (seed _ _ _) _ _ (seed-untimed _ _ _) (o .others-in-range .ensures _) (d .decide-seed .ensures)) (t .if1 .taken))
 
 feed-requires : tie.Need-feed-requires
 feed-requires c κs =
@@ -55,7 +55,7 @@ returns-2 c clocks blocking fast =
     let p = c .decide-seed .ensures in
     let c : tie.After-others-in-range = search in
     rw done
-    (seed-done _ _ _ _ _ _ _ _ _ _ (decided _ (seed _ _ _) _ _ (seed-untimed _ _ _) (c .others-in-range .ensures) p) (so FedPlan p (seed-plan _ _ _ _ _ _) zero) long fed (r .0) (r .1 .0) (r .1 .1))
+    (seed-done _ _ _ _ _ _ _ _ _ _ (decided _ (seed _ _ _) _ _ (seed-untimed _ _ _) (c .others-in-range .ensures _) p) (so FedPlan p (seed-plan _ _ _ _ _ _) zero) long fed (r .0) (r .1 .0) (r .1 .1))
 
 pub seed-on-spec : {M : Type 1} → statement M
 seed-on-spec =

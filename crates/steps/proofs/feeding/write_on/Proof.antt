@@ -14,7 +14,7 @@ returns c clocks blocking fast =
     let t : tie.Then1 = search in
     let d : tie.After-decide-write = search in
     let o : tie.After-others-in-range = search in
-    rw refused (refusal _ (written _) [] _ (decided _ (write _) _ _ (write-untimed _) (o .others-in-range .ensures) (d .decide-write .ensures)) (t .if1 .taken))
+    rw refused (refusal _ (written _) [] _ (decided _ (write _) _ _ (write-untimed _) (o .others-in-range .ensures _) (d .decide-write .ensures)) (t .if1 .taken))
 
 feed-requires : tie.Need-feed-requires
 feed-requires c κs =
@@ -39,7 +39,7 @@ returns-2 c clocks blocking fast =
     let c : tie.After-decide-write = search in
     let p = c .decide-write .ensures in
     let c : tie.After-others-in-range = search in
-    rw done (write-done _ _ _ _ _ (decided _ (write _) _ _ (write-untimed _) (c .others-in-range .ensures) p) (so WritePlan p (write-plan _ _ _ _) zero) long fed)
+    rw done (write-done _ _ _ _ _ (decided _ (write _) _ _ (write-untimed _) (c .others-in-range .ensures _) p) (so WritePlan p (write-plan _ _ _ _) zero) long fed)
 
 pub write-on-spec : {M : Type 1} → statement M
 write-on-spec = tie.close (tie.spec (λ c κs. search needs) (λ c κs. search needs) (λ c κs. search needs) returns feed-requires carried-out-requires returns-2)

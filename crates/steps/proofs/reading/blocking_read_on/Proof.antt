@@ -14,7 +14,7 @@ returns c clocks fast =
     let t : tie.Then1 = search in
     let d : tie.After-decide-blocking-read = search in
     let o : tie.After-others-in-range = search in
-    rw refused (refusal _ (blockingReadOf _) _ _ (decided _ (blockingRead _) _ _ (blocking-untimed _) (o .others-in-range .ensures) (d .decide-blocking-read .ensures)) (t .if1 .taken))
+    rw refused (refusal _ (blockingReadOf _) _ _ (decided _ (blockingRead _) _ _ (blocking-untimed _) (o .others-in-range .ensures _) (d .decide-blocking-read .ensures)) (t .if1 .taken))
 
 transfer-requires : tie.Need-transfer-requires
 transfer-requires c κs =
@@ -64,7 +64,7 @@ returns-2 c clocks fast =
     let p = c .decide-blocking-read .ensures in
     let c : tie.After-others-in-range = search in
     rw done
-    (blocking-done _ _ _ _ _ _ _ _ _ _ (decided _ (blockingRead _) _ _ (blocking-untimed _) (c .others-in-range .ensures) p) (so (BlockingPlan _) p (blocking-plan _ _ _ _) zero) from into (x .0) (x .1 .0) (x .1 .1 .0) (y .0) (y .1 .0) (y .1 .1))
+    (blocking-done _ _ _ _ _ _ _ _ _ _ (decided _ (blockingRead _) _ _ (blocking-untimed _) (c .others-in-range .ensures _) p) (so (BlockingPlan _) p (blocking-plan _ _ _ _) zero) from into (x .0) (x .1 .0) (x .1 .1 .0) (y .0) (y .1 .0) (y .1 .1))
 
 pub blocking-read-on-spec : {M : Type 1} → statement M
 blocking-read-on-spec =

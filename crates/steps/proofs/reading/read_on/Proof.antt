@@ -14,7 +14,7 @@ returns c clocks blocking fast =
     let t : tie.Then1 = search in
     let d : tie.After-decide-read = search in
     let o : tie.After-others-in-range = search in
-    rw refused (refusal _ (generatorRead _ _) _ _ (decided _ (read _ _) _ _ (read-untimed _ _) (o .others-in-range .ensures) (d .decide-read .ensures)) (t .if1 .taken))
+    rw refused (refusal _ (generatorRead _ _) _ _ (decided _ (read _ _) _ _ (read-untimed _ _) (o .others-in-range .ensures _) (d .decide-read .ensures)) (t .if1 .taken))
 
 reseed-requires : tie.Need-reseed-requires
 reseed-requires c κs =
@@ -59,7 +59,7 @@ returns-2 c clocks blocking fast =
     let o : tie.After-others-in-range = search in
     let s : tie.Start = search in
     rw done
-    (read-done _ _ (s .args .out .now) _ _ _ _ _ _ (decided _ (read _ _) _ _ (read-untimed _ _) (o .others-in-range .ensures) p) (so (ReadPlan _) p (read-plan _ _ _ _ _) zero) long key (r .0) (r .1 .0) (r .1 .1) (g .0) (g .1))
+    (read-done _ _ (s .args .out .now) _ _ _ _ _ _ (decided _ (read _ _) _ _ (read-untimed _ _) (o .others-in-range .ensures _) p) (so (ReadPlan _) p (read-plan _ _ _ _ _) zero) long key (r .0) (r .1 .0) (r .1 .1) (g .0) (g .1))
 
 pub read-on-spec : {M : Type 1} → statement M
 read-on-spec =
