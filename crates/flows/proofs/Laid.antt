@@ -10,7 +10,7 @@ use lib.Seq.{length-take-le, take-at}
 use Rattle.words.specs.Bytes.{leBytes, wordsBytes, bytesWords}
 use Rattle.ledger.specs.Shapes.{Shape}
 use Rattle.pool.specs.Mixing.{Pool}
-use Rattle.pool.specs.Extracting.{Extract, extractBlocks, extract}
+use Rattle.pool.specs.Extracting.{Extract, extract}
 use Rattle.pool.proofs.Extracted.{laws}
 use Rattle.keeper.specs.Generator.{xorAt, ontoKey}
 use Rattle.keeper.specs.Calls.{eventBytes}

@@ -271,8 +271,8 @@ write-done k bs p xs s ep sh hw em =
 -- ---- generator read
 read-takes : (p : Plan) (k : Keeper) (now len : ℕ) → p .feeds ≡ false
     → forReseed (generatorRead now len) p k ≡ extract inputShape (p .reseed) (inputPool k)
-unfolding pick mix
-read-takes p k now len e = rw e refl
+unfolding pick
+read-takes p k now len e = rw (e, (laws inputShape) .mix-none (inputPool k)) refl
 
 -- a room that is filled holds the bytes and nothing else
 filled : (room bs : List ℕ) → length bs ≡ length room → roomAfter room bs ≡ bs
@@ -305,9 +305,9 @@ read-done k now room p xs u g h out ep sh hw hg ex eu eg eo eh =
 -- ---- blocking read
 blocking-takes : (p : Plan) (k : Keeper) (len : ℕ) → p .feeds ≡ false → p .reseed ≡ 0
     → forTransfer (blockingReadOf len) p k ≡ extract inputShape (p .transfer) (inputPool k)
-unfolding pick mix
+unfolding pick
 blocking-takes p k len e z =
-    rw e (ap (λ (x : Extract). extract inputShape (p .transfer) (x .pool)) (none-taken inputShape (p .reseed) (inputPool k) z))
+    rw (e, (laws inputShape) .mix-none (inputPool k)) (ap (λ (x : Extract). extract inputShape (p .transfer) (x .pool)) (none-taken inputShape (p .reseed) (inputPool k) z))
 
 pub blocking-done : (k : Keeper) (room : List ℕ) (p : Plan) (xs ys zs : List ℕ) (u v w : Spot) (out : List ℕ)
     → let t = extract (shapeOf (length (k .input))) (p .transfer) (inputPool k) in
