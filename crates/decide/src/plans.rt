@@ -5,7 +5,7 @@ ghost use mathlib.Core.Bool.{true, _&&_};
 ghost use Prim.Native.Nat.{_≤_, _*_, min, max};
 ghost use lib.Dec.{eqb};
 ghost use Rattle.ledger.specs.Choice.{pick};
-ghost use Rattle.ledger.specs.Sizes.{longest};
+ghost use Rattle.ledger.specs.Sizes.{inputSize, blockingSize, longest};
 ghost use Rattle.ledger.specs.Credits.{reseedTakes};
 ghost use Rattle.ledger.specs.Timers.{freshTimer};
 ghost use Rattle.ledger.specs.Marks.{inputCounts, blockingCounts, valued, tallied, spilled, stays, reseedDue, isLow};
@@ -23,7 +23,9 @@ use ledger::numbers::REPEATED;
 use ledger::numbers::TOO_LONG;
 use ledger::numbers::UNSEEDED;
 use ledger::numbers::WOULD_BLOCK;
+use ledger::sizes::BLOCKING_SIZE;
 use ledger::sizes::DEVICES;
+use ledger::sizes::INPUT_SIZE;
 use ledger::sizes::LONGEST;
 use reckon::credit;
 use reckon::debit;
@@ -113,10 +115,10 @@ fn first_seeding(bits: u32, count: u32, l: Ledger) -> u32
 
 // The call's bytes are mixed into the input pool and bits are credited.
 fn feed(now: u32, stirs: bool, bits: u32, l: Ledger) -> Plan
-    requires { ⌜ (l .input .count ≤ 32768) × (bits ≤ 32768) ⌝ }
+    requires { ⌜ (l .input .count ≤ inputSize) × (bits ≤ 8 * longest) ⌝ }
     ensures { λ r. ⌜ r ≡ feed now stirs bits l ⌝ }
 {
-    let c = credit(32768, l.input.count, bits);
+    let c = credit(INPUT_SIZE, l.input.count, bits);
     let t = first_seeding(bits, c, l);
     let n = reseeding(now, c, t, l);
     plan_of(DONE, n, stirs, true, t, 0, 0, 0)
@@ -152,7 +154,7 @@ fn repeats(device: u32, value: u32, l: Ledger) -> bool
 }
 
 fn plan_event(device: u32, now: u32, value: u32, t: Timer, l: Ledger) -> Plan
-    requires { ⌜ (timerInRange t ≡ true) × (l .input .count ≤ 32768) ⌝ }
+    requires { ⌜ (timerInRange t ≡ true) × (l .input .count ≤ inputSize) ⌝ }
     ensures { λ r. ⌜ r ≡ planEvent device now value t l ⌝ }
 {
     if DEVICES <= device as usize {
@@ -195,7 +197,7 @@ fn spilled(now: u32, l: Ledger) -> Ledger
 }
 
 fn plan_interrupt(now: u32, l: Ledger) -> Plan
-    requires { ⌜ (l .spill .tally ≤ 63) × (l .input .count ≤ 32768) ⌝ }
+    requires { ⌜ (l .spill .tally ≤ 63) × (l .input .count ≤ inputSize) ⌝ }
     ensures { λ r. ⌜ r ≡ planInterrupt now l ⌝ }
 {
     if stays(now, l) {
@@ -214,7 +216,7 @@ fn plan_write(len: usize, l: Ledger) -> Plan
 }
 
 fn plan_seed(now: u32, len: usize, bits: u32, l: Ledger) -> Plan
-    requires { ⌜ l .input .count ≤ 32768 ⌝ }
+    requires { ⌜ l .input .count ≤ inputSize ⌝ }
     ensures { λ r. ⌜ r ≡ planSeed now len bits l ⌝ }
 {
     if LONGEST < len {
@@ -295,7 +297,7 @@ fn with_counts(i: u32, b: u32, l: Ledger) -> Ledger
 }
 
 fn plan_blocking_read(len: usize, l: Ledger) -> Plan
-    requires { ⌜ l .blocking .count ≤ 8192 ⌝ }
+    requires { ⌜ l .blocking .count ≤ blockingSize ⌝ }
     ensures { λ r. ⌜ r ≡ planBlockingRead len l ⌝ }
 {
     if LONGEST < len {
@@ -309,7 +311,7 @@ fn plan_blocking_read(len: usize, l: Ledger) -> Plan
     }
     let n = len as u32;
     let t = transferred(n, l);
-    let c = credit(8192, l.blocking.count, 8 * t);
+    let c = credit(BLOCKING_SIZE, l.blocking.count, 8 * t);
     let d = debit(n, 0, c);
     let m = with_counts(l.input.count - 64 * t, c - 64 * d, l);
     plan_of(DONE, m, false, false, 0, t, d, 0)

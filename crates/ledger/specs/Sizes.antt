@@ -18,6 +18,13 @@ fastWords = 4
 abbrev pub generatorWords : ℕ
 generatorWords = 16
 
+-- the size S of the input pool and of the blocking pool, in eighths of a bit
+abbrev pub inputSize : ℕ
+inputSize = 32768
+
+abbrev pub blockingSize : ℕ
+blockingSize = 8192
+
 -- start bytes of a keeper
 abbrev pub startBytes : ℕ
 startBytes = 48

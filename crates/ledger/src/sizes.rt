@@ -12,6 +12,11 @@ pub const FAST_WORDS: usize = 4;
 
 pub const GENERATOR_WORDS: usize = 16;
 
+// The size S of the input pool and of the blocking pool, in eighths of a bit.
+pub const INPUT_SIZE: u32 = 32768;
+
+pub const BLOCKING_SIZE: u32 = 8192;
+
 // Start bytes of a keeper.
 pub const START_BYTES: usize = 48;
 

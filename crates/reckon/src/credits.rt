@@ -1,6 +1,7 @@
 // Credits and debits, on a count in eighths of a bit.
 ghost use mathlib.Core.Path.{_≡_};
 ghost use Prim.Native.Nat.{_+_, _-_, _*_, _≤_, min};
+ghost use Rattle.ledger.specs.Sizes.{longest};
 ghost use Rattle.ledger.specs.Credits.{Within, credited, further, taken, turnAdds, turnTakes};
 
 // The lesser of two.
@@ -56,7 +57,7 @@ fn turns(size: u32, count: u32, rest: u32) -> u32
 // the recursion, which asks for the count at each turn. Only proved code comes here, and no call names more bits than these.
 pub fn credit(size: u32, count: u32, bits: u32) -> u32
     requires { ⌜ Within size count ⌝ }
-    requires { ⌜ bits ≤ 32768 ⌝ }
+    requires { ⌜ bits ≤ 8 * longest ⌝ }
     ensures { λ r. ⌜ r ≡ credited size bits count ⌝ }
     ensures { λ r. ⌜ r ≤ size ⌝ }
 {

@@ -12,7 +12,9 @@ use crate::clocks::amount;
 use ledger::Gauge;
 use ledger::Ledger;
 use ledger::Timer;
+use ledger::sizes::BLOCKING_SIZE;
 use ledger::sizes::BLOCKING_WORDS;
+use ledger::sizes::INPUT_SIZE;
 use ledger::sizes::INPUT_WORDS;
 use std::num::wrapping_sub_u64;
 
@@ -52,8 +54,8 @@ fn pool_in_range(g: Gauge, size: u32, words: usize) -> bool
 pub fn ledger_in_range(l: Ledger) -> bool
     ensures { λ r. ⌜ r ≡ ledgerInRange l ⌝ }
 {
-    let input = pool_in_range(l.input, 32768, INPUT_WORDS);
-    let blocking = pool_in_range(l.blocking, 8192, BLOCKING_WORDS);
+    let input = pool_in_range(l.input, INPUT_SIZE, INPUT_WORDS);
+    let blocking = pool_in_range(l.blocking, BLOCKING_SIZE, BLOCKING_WORDS);
     input & (blocking & (l.spill.tally <= 63))
 }
 
