@@ -1,6 +1,11 @@
+use mathlib.Core.Path.{_≡_, sym, ap₂, subst, _∙_}
 use native.Mathlib.Omega.{arith}
+use lib.IntN.{ℤ, _-ℤ_}
+use mir.Syntax.{w64}
+use mir.Val.{SFits, toZ, ofZ}
 use borrow.Author.Needs.{needs}
 use Rattle.ledger.specs.Clocks.{clockDiff}
+use Rattle.ledger.specs.declared.Timer.{Timer}
 use Rattle.reckon.proofs.Signs.{back, lies, sub-fits, diff-bound, d1-bound}
 use Rattle.reckon.proofs.clocks.next_timer.Statement.{statement}
 use Rattle.reckon.proofs.clocks.next_timer.Tie as tie
@@ -13,7 +18,7 @@ minus-requires c κs =
     let x = clockDiff (s .args .now) (s .args .t .clock) in
     let y = s .args .t .d1 in
     let h = d1-bound (s .args .t) (s .pre) in
-    rw (back (d .result) (d .ok), back y (omega arith), d .ensures)
+    subst (SFits w64) (sym (ap₂ _-ℤ_ (back (d .result) (d .ok) ∙ d .ensures) (back y (omega arith))))
     (sub-fits x y (omega (arith, lies x, diff-bound (s .args .now) (s .args .t .clock))) (omega (arith, lies y)))
 
 returns : tie.Need-returns
@@ -21,8 +26,11 @@ returns c =
     let b : tie.After-clock-diff = search in
     let s : tie.Start = search in
     let d = b .clock-diff in
+    let y = s .args .t .d1 in
     let h = d1-bound (s .args .t) (s .pre) in
-    rw (back (c .minus .result) (c .minus .ok), c .minus .ensures, back (d .result) (d .ok), back (s .args .t .d1) (omega arith), d .ensures)
+    let first : toZ w64 (ofZ w64 (d .result)) ≡ clockDiff (s .args .now) (s .args .t .clock) = back (d .result) (d .ok) ∙ d .ensures in
+    ap₂ {C = Timer} (λ (d1 d2 : ℤ). record { clock = s .args .now; d1 = d1; d2 = d2 }) first
+    (back (c .minus .result) (c .minus .ok) ∙ c .minus .ensures ∙ ap₂ _-ℤ_ first (back y (omega arith)))
 
 pub next-timer-spec : {M : Type 1} → statement M
 next-timer-spec = tie.close (tie.spec (λ c κs. search needs) minus-requires returns)
