@@ -1,5 +1,6 @@
 -- `reckon::credits::credit` meets its contract: a first turn on a rest of 8 for each bit, then the turns that are left.
-use mathlib.Core.Path.{_≡_, sym}
+use mathlib.Core.Path.{_≡_, sym, ap, _∙_}
+use Prim.Native.Nat.{ℕ}
 use native.Mathlib.Omega.{arith}
 use borrow.Author.Needs.{needs}
 use Rattle.ledger.proofs.Crediting.{credited-room}
@@ -9,7 +10,10 @@ use Rattle.reckon.proofs.credits.credit.Statement.{statement}
 use Rattle.reckon.proofs.credits.credit.Tie as tie
 
 returns : tie.Need-returns
-returns c = (rw (c .if1 .taken, credited-none), omega arith)
+returns c =
+    let b : tie.Start = search in
+    let s = b .args in
+    (sym (ap (λ (n : ℕ). credited (s .size) n (s .count)) (c .if1 .taken) ∙ credited-none (s .size) (s .count)), omega arith)
 
 returns-2 : tie.Need-returns-2
 returns-2 c =
