@@ -10,6 +10,7 @@ use lib.ListN.{getD, set}
 use lib.IntN.{ℤ, pos, negsuc, subℕ, _-ℤ_}
 use borrow.Author.Tests.{lt-ltb, le-leb, ltb-true, ltb-false, leb-true, eqb-true}
 use Rattle.ledger.specs.Choice.{pick}
+use Rattle.ledger.specs.Sizes.{inputSize, blockingSize}
 use Rattle.ledger.specs.Shapes.{Shape, inputShape, blockingShape}
 use Rattle.ledger.specs.Places.{stepped, moved, movedBlocks, blocksOf, extractedFrom}
 use Rattle.ledger.specs.Clocks.{signed, clockDiff, nextTimer}
@@ -225,7 +226,7 @@ feed-fine : (now : ℕ) (stirs : Bool) (n : ℕ) (l : Ledger) → LedgerFine l �
 unfolding feed
 feed-fine now stirs n l f =
     record {
-      ledger = record { input = counted _ (omega (arith, credited-room 32768 n (l .input .count) (omega arith) (f .input .count))) (f .input); blocking = f .blocking; tally = f .tally };
+      ledger = record { input = counted _ (omega (arith, credited-room inputSize n (l .input .count) (omega arith) (f .input .count))) (f .input); blocking = f .blocking; tally = f .tally };
       timer = refl;
     }
 
@@ -259,7 +260,7 @@ read-fine now len l f =
 blocking-fine : (n : ℕ) (l : Ledger) → LedgerFine l → PlanFine (planBlockingRead n l)
 unfolding planBlockingRead
 blocking-fine n l f =
-    let r = credited-room 8192 (8 * transferred n l) (l .blocking .count) (omega arith) (f .blocking .count) in
+    let r = credited-room blockingSize (8 * transferred n l) (l .blocking .count) (omega arith) (f .blocking .count) in
     pick-both PlanFine _ (idle-fine 3 l f) (pick-both PlanFine _ (idle-fine 0 l f) (pick-both PlanFine _ (idle-fine 1 l f)
     (record { ledger = record { input = counted _ (omega (arith, f .input .count)) (f .input); blocking = counted _ (omega (arith, r)) (f .blocking); tally = f .tally }; timer = refl })))
 
