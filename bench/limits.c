@@ -44,9 +44,10 @@ static void twists(void) {
     }
 }
 
-/* Two numbers a load, which every machine here can do, and four sums side by side, so that no load waits. */
+/* Two numbers a load, which every machine here can do, and four sums side by side, so that no load waits. The bytes of sixteen timers
+   are a load more. */
 typedef int64_t pair __attribute__((vector_size(16)));
-static pair numbers[MOST_TIMERS];
+static pair numbers[MOST_TIMERS + MOST_TIMERS / 16];
 static size_t loaded;
 
 static void loads(void) {
@@ -54,12 +55,14 @@ static void loads(void) {
         const pair *from = numbers;
         pair a = {0}, b = {0}, c = {0}, d = {0};
         WAIT(from);
-        for (size_t k = 0; k < loaded; k += 4) {
+        size_t k = 0;
+        for (; k + 4 <= loaded; k += 4) {
             a |= from[k];
             b |= from[k + 1];
             c |= from[k + 2];
             d |= from[k + 3];
         }
+        for (; k < loaded; k++) a |= from[k];
         a |= b | c | d;
         int64_t all = a[0] | a[1];
         WAIT(all);
@@ -84,7 +87,8 @@ double limit_compression(void) { return 80 * 2 * limit_step(); }
 double limit_byte(void) { return least(twists, 4.0 * TURNS); }
 
 double limit_timers(size_t count) {
-    loaded = count < MOST_TIMERS ? count : MOST_TIMERS;
+    if (count > MOST_TIMERS) count = MOST_TIMERS;
+    loaded = count + count / 16;
     for (size_t i = 0; i < loaded; i++) numbers[i] = (pair){(int64_t)i + 1, -(int64_t)i}; /* memory of its own, and not the page of zeros */
     return least(loads, TURNS / 10);
 }

@@ -16,7 +16,7 @@ double limit_compression(void);
 /* A mixed byte: the word that it writes waits for the one written before it, whose low bits choose the twist entry that goes in. */
 double limit_byte(void);
 
-/* The range test: so many timers, two numbers each, are loaded. */
+/* The range test: so many timers are loaded, two numbers and a byte each. */
 double limit_timers(size_t count);
 
 #endif

@@ -5,6 +5,7 @@
 
 enum { INPUT_SIZE = 32768, BLOCKING_SIZE = 8192 }; /* in eighths of a bit */
 enum { FIRST_SEEDING = 1024, RESEED_AFTER = 300000, SPILL_AFTER = 1000, SPILL_AT = 64 };
+enum { NEW_UNTIL = 3 }; /* kept events of a device that have to come before one that earns */
 
 static const uint32_t constants[4] = {0x61707865, 0x3320646e, 0x79622d32, 0x6b206574};
 
@@ -43,14 +44,17 @@ static int in_range(const struct nk_keeper *k) {
     if (l->blocking.spot.at > 31 || l->blocking.spot.turn > 31) return 0;
     for (int i = 0; i < 4; i++)
         if (k->generator[i] != constants[i]) return 0;
-    /* no way out of the loop, so that the compiler can take several timers at a time; each number is below 2^32 where its timer is in range */
+    /* no way out of the loops, so that the compiler can take several timers at a time; where its timer is in range, each number of the
+       first loop is below 2^32, and each of the second has two bits */
     uint64_t out = 0;
+    uint8_t came = 0;
     for (int i = 0; i < NK_DEVICES; i++) {
         uint64_t first = (uint64_t)k->firsts[i], second = (uint64_t)k->seconds[i];
         out |= first + 0x80000000u;
         out |= k->seconds[i] < 0 ? -second : second;
     }
-    return out >> 32 == 0;
+    for (int i = 0; i < NK_DEVICES; i++) came |= k->came[i];
+    return (out >> 32 | came >> 2) == 0;
 }
 
 /* Pools. The shape is a constant in every use, and the inner functions are inlined, so each pool gets code of its own. */
@@ -188,6 +192,10 @@ struct nk_answer plain_event(struct nk_keeper *k, uint32_t device, uint32_t now,
     k->firsts[device] = d1;
     k->seconds[device] = d2;
     if (device == 0) k->ledger.value = value;
+    if (k->came[device] < NEW_UNTIL) {
+        k->came[device]++;
+        return answer(NK_DONE, 0, 0, 0);
+    }
 
     uint64_t least = amount(d1);
     if (amount(d2) < least) least = amount(d2);

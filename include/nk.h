@@ -21,7 +21,7 @@
  *   - a count is above its pool's size (input 32,768, blocking 8,192, in eighths of a bit),
  *   - a position is outside its pool (input 0 to 127, blocking 0 to 31), or a rotation is above 31,
  *   - the tally is above 63,
- *   - one of `firsts` is outside -2^31 to 2^31 - 1, or one of `seconds` outside -(2^32 - 1) to 2^32 - 1,
+ *   - one of `firsts` is outside -2^31 to 2^31 - 1, one of `seconds` outside -(2^32 - 1) to 2^32 - 1, or one of `came` above 3,
  *   - one of generator words 0 to 3 is not the cipher's constant.
  * Every other bit pattern is a keeper in range. No record, whatever its bytes, makes a call do anything undefined. The only cure is
  * nk_make, from start bytes that were never used. `seeding.mark` is not part of this test: 1 is seeded, and any other number is read as
@@ -155,10 +155,12 @@ struct nk_ledger {
 /* The record. Fields may be read at any time between calls; a caller that writes them answers for what follows. */
 struct nk_keeper {
     struct nk_ledger ledger;
-    /* a timer for each device: the clock of its last event, and that event's first and second difference */
+    /* a timer for each device: the clock of its last kept event, that event's first and second difference, and how many kept events of
+     * the device came, up to three */
     uint32_t clocks[NK_DEVICES];
     int64_t firsts[NK_DEVICES];
     int64_t seconds[NK_DEVICES];
+    uint8_t came[NK_DEVICES];
     /* secret from here on */
     uint32_t input[NK_INPUT_WORDS];
     uint32_t blocking[NK_BLOCKING_WORDS];
@@ -195,15 +197,16 @@ NK_HOLDS(offsetof(struct nk_ledger, blocking) == 12);
 NK_HOLDS(offsetof(struct nk_ledger, value) == 24);
 NK_HOLDS(offsetof(struct nk_ledger, spill) == 28);
 NK_HOLDS(offsetof(struct nk_ledger, seeding) == 36);
-NK_HOLDS(sizeof(struct nk_keeper) == 1088);
+NK_HOLDS(sizeof(struct nk_keeper) == 1104);
 NK_HOLDS(offsetof(struct nk_keeper, ledger) == 0);
 NK_HOLDS(offsetof(struct nk_keeper, clocks) == 44);
 NK_HOLDS(offsetof(struct nk_keeper, firsts) == 112); /* four bytes of padding lie before it */
 NK_HOLDS(offsetof(struct nk_keeper, seconds) == 240);
-NK_HOLDS(offsetof(struct nk_keeper, input) == 368);
-NK_HOLDS(offsetof(struct nk_keeper, blocking) == 880);
-NK_HOLDS(offsetof(struct nk_keeper, fast) == 1008);
-NK_HOLDS(offsetof(struct nk_keeper, generator) == 1024);
+NK_HOLDS(offsetof(struct nk_keeper, came) == 368);
+NK_HOLDS(offsetof(struct nk_keeper, input) == 384);
+NK_HOLDS(offsetof(struct nk_keeper, blocking) == 896);
+NK_HOLDS(offsetof(struct nk_keeper, fast) == 1024);
+NK_HOLDS(offsetof(struct nk_keeper, generator) == 1040);
 NK_HOLDS(sizeof(struct nk_answer) == 16);
 NK_HOLDS(offsetof(struct nk_answer, number) == 0);
 NK_HOLDS(offsetof(struct nk_answer, delivered) == 4);
@@ -221,7 +224,9 @@ NK_LOOK struct nk_answer nk_make(struct nk_keeper *k, const uint8_t *start, size
 
 /* Something happened on a device: `stamp` is the finest counter at hand, `value` what the device told (a key's code, a sector).
  * Stamp, clock and value are mixed into the input pool. The credit, 0 to 11 bits, comes from how irregular the device's clocks are,
- * and from nothing else. An unseeded keeper that is credited at all and then has 128 bits is seeded at once.
+ * and from nothing else. The first three events that are kept of a device earn nothing, since their clocks have too few others to be
+ * compared with; they are mixed, and their clocks kept, as all are. An event that is refused is not kept and does not count.
+ * An unseeded keeper that is credited at all and then has 128 bits is seeded at once.
  * Changes the input pool and its count, the device's timer, and for device 0 the last value; where it seeds, the generator's key too.
  * Refused, in this order: NK_OUT_OF_RANGE; NK_NO_SUCH_DEVICE, device over 15; NK_REPEATED, device 0 with the value of its last event
  * that was kept (0 at first). */

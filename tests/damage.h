@@ -4,7 +4,7 @@
 
 #include "../include/nk.h"
 
-enum { DAMAGES = 274 };
+enum { DAMAGES = 386 };
 
 /* One way, 0 to DAMAGES - 1, to be out of range; 0 where there is no such way. */
 static inline int damage(struct nk_keeper *k, unsigned way) {
@@ -28,10 +28,13 @@ static inline int damage(struct nk_keeper *k, unsigned way) {
     }
     static const int64_t firsts[4] = {-2147483649, 2147483648, INT64_MIN, INT64_MAX};
     static const int64_t seconds[4] = {-4294967296, 4294967296, INT64_MIN, INT64_MAX};
+    static const uint8_t came[7] = {4, 8, 16, 32, 64, 128, 255};
     if (way < 64) { k->firsts[way / 4] = firsts[way % 4]; return 1; }
     way -= 64;
     if (way < 64) { k->seconds[way / 4] = seconds[way % 4]; return 1; }
     way -= 64;
+    if (way < 112) { k->came[way / 7] = came[way % 7]; return 1; }
+    way -= 112;
     if (way < 128) { k->generator[way / 32] ^= 1u << way % 32; return 1; }
     way -= 128;
     if (way < 4) { k->generator[way] = 0; return 1; }

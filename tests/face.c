@@ -90,6 +90,18 @@ static uint64_t counter(const struct nk_keeper *k) {
     return (uint64_t)k->generator[13] << 32 | k->generator[12];
 }
 
+/* New devices, by the records before and after a call: a kept event is counted for its device, up to three, and earns only where three came
+   before it; nothing else is counted. */
+static void check_came(const struct nk_keeper *k, const struct nk_keeper *l, const struct call *c, struct nk_answer a, const char *what) {
+    uint8_t came[NK_DEVICES];
+    memcpy(came, k->came, sizeof came);
+    if (c->kind == EVENT && a.number == NK_DONE && c->device < NK_DEVICES && came[c->device] < 3) {
+        came[c->device]++;
+        check(l->ledger.input.count == k->ledger.input.count && a.compressions == 0, "%s: an event of a new device earns", what);
+    }
+    check(memcmp(came, l->came, sizeof came) == 0, "%s: how many events came is not counted as it should be", what);
+}
+
 /* One call by both sides, on bytes given or, for a read, on a room with random contents. The record becomes the archive's. */
 static struct nk_answer try_on(struct nk_keeper *k, struct call c, const uint8_t *bytes) {
     static unsigned turn;
@@ -140,6 +152,7 @@ static struct nk_answer try_on(struct nk_keeper *k, struct call c, const uint8_t
         uint64_t moved = counter(l) - counter(k);
         check(moved == a.blocks, "%s: the counter moved by %" PRIu64 ", and %u blocks are reported", what, moved, a.blocks);
         check(memcmp(l->generator + 14, k->generator + 14, 8) == 0, "%s: generator words 14 and 15 changed", what);
+        check_came(k, l, &c, a, what);
     }
     memcpy(k, l, sizeof *k);
     return a;
@@ -190,7 +203,7 @@ static void make(struct nk_keeper *k) {
     check(nk_make(k, start, sizeof start).number == NK_DONE, "a keeper is not made");
 }
 
-/* A made keeper with both pools well filled, seeded at clock 5,000. */
+/* A made keeper with both pools well filled, seeded at clock 5,000, and no device new. */
 static void make_ready(struct nk_keeper *k) {
     uint8_t noise[512];
     make(k);
@@ -198,11 +211,18 @@ static void make_ready(struct nk_keeper *k) {
     for (int i = 0; i < 2; i++) check(nk_seed(k, 5000, noise, sizeof noise, 4096).number == NK_DONE, "a seed is refused");
     k->ledger.blocking.count = 4096;
     for (int i = 0; i < NK_BLOCKING_WORDS; i++) k->blocking[i] = 0x9e3779b9u * (uint32_t)(i + 1);
+    memset(k->came, 3, sizeof k->came);
+}
+
+/* Three kept events of a new device, all at clock 0: its timer is a fresh one's but for how many came. The next event compares its clock
+   with 0, and is the first that may earn. */
+static void let_three_come(struct nk_keeper *k, uint32_t device) {
+    for (uint32_t i = 1; i <= 3; i++) check(try(k, event_of(device, 0, i)).number == NK_DONE, "event %u of a new device is refused", i);
 }
 
 static const uint32_t constants[4] = {0x61707865, 0x3320646e, 0x79622d32, 0x6b206574};
 
-/* Any record in range: every field random, edges often. */
+/* Any record in range: every field random, edges often, and most devices not new, so that their events earn. */
 static void random_record(struct nk_keeper *k) {
     for (int i = 0; i < NK_INPUT_WORDS; i++) k->input[i] = (uint32_t)chance();
     for (int i = 0; i < NK_BLOCKING_WORDS; i++) k->blocking[i] = (uint32_t)chance();
@@ -226,6 +246,7 @@ static void random_record(struct nk_keeper *k) {
         k->clocks[i] = (uint32_t)chance();
         k->firsts[i] = below(4) ? (int32_t)chance() : below(2) ? INT32_MIN : INT32_MAX;
         k->seconds[i] = below(4) ? (int64_t)(chance() >> 32) - (int64_t)(chance() >> 32) : below(2) ? -4294967295 : 4294967295;
+        k->came[i] = below(4) ? 3 : (uint8_t)below(4);
     }
 }
 
@@ -254,6 +275,8 @@ static int edge(struct nk_keeper *k, unsigned way) {
     if (way < 32) { k->firsts[way / 2] = way % 2 ? INT32_MAX : INT32_MIN; return 1; }
     way -= 32;
     if (way < 32) { k->seconds[way / 2] = way % 2 ? 4294967295 : -4294967295; return 1; }
+    way -= 32;
+    if (way < 32) { k->came[way / 2] = way % 2 ? 3 : 0; return 1; }
     return 0;
 }
 
@@ -269,7 +292,7 @@ static void layout(void) {
     SIZE(struct nk_spill, 8);
     SIZE(struct nk_seeding, 8);
     SIZE(struct nk_ledger, 44);
-    SIZE(struct nk_keeper, 1088);
+    SIZE(struct nk_keeper, 1104);
     SIZE(struct nk_answer, 16);
     check(_Alignof(struct nk_keeper) == 8, "struct nk_keeper is aligned at %zu", _Alignof(struct nk_keeper));
     OFFSET(struct nk_keeper, ledger.input.count, 0);
@@ -286,10 +309,11 @@ static void layout(void) {
     OFFSET(struct nk_keeper, clocks, 44);
     OFFSET(struct nk_keeper, firsts, 112);
     OFFSET(struct nk_keeper, seconds, 240);
-    OFFSET(struct nk_keeper, input, 368);
-    OFFSET(struct nk_keeper, blocking, 880);
-    OFFSET(struct nk_keeper, fast, 1008);
-    OFFSET(struct nk_keeper, generator, 1024);
+    OFFSET(struct nk_keeper, came, 368);
+    OFFSET(struct nk_keeper, input, 384);
+    OFFSET(struct nk_keeper, blocking, 896);
+    OFFSET(struct nk_keeper, fast, 1024);
+    OFFSET(struct nk_keeper, generator, 1040);
     OFFSET(struct nk_answer, number, 0);
     OFFSET(struct nk_answer, delivered, 4);
     OFFSET(struct nk_answer, blocks, 8);
@@ -307,6 +331,7 @@ static void layout(void) {
             check(k.clocks[e] == (e == d ? 1000 + d : 0), "device %u: clocks[%u]", d, e);
             check(k.firsts[e] == (e == d ? 1000 + d : 0), "device %u: firsts[%u]", d, e);
             check(k.seconds[e] == (e == d ? 1000 + d : 0), "device %u: seconds[%u]", d, e);
+            check(k.came[e] == (e == d), "device %u: came[%u]", d, e);
         }
     }
     make(&k);
@@ -497,6 +522,17 @@ static const struct call at_damage[] = {
     {.kind = BLOCKING_READ, .len = 4097},
 };
 
+/* A damaged record is answered 17 by every call, and left as it was. `what` and `where` say how it is damaged. */
+static void check_damaged(const struct nk_keeper *damaged, const char *what, unsigned where) {
+    for (size_t i = 0; i < sizeof at_damage / sizeof *at_damage; i++) {
+        const char *name = names[at_damage[i].kind];
+        struct nk_keeper k = *damaged;
+        struct nk_answer a = try(&k, at_damage[i]);
+        check(a.number == NK_OUT_OF_RANGE, "%s %u, %s of %zu: answered %u", what, where, name, at_damage[i].len, a.number);
+        check(same_fields(&k, damaged), "%s %u, %s of %zu: the record changed", what, where, name, at_damage[i].len);
+    }
+}
+
 static void out_of_range(void) {
     begin("out of range, one field at a time, at every call");
     struct nk_keeper ready, k;
@@ -506,16 +542,9 @@ static void out_of_range(void) {
             k = ready;
             k.ledger.seeding.mark = !unseeded;
             check(damage(&k, way), "there is no damage %u", way);
-            struct nk_keeper damaged = k;
-            for (size_t i = 0; i < sizeof at_damage / sizeof *at_damage; i++) {
-                struct nk_answer a = try(&k, at_damage[i]);
-                check(a.number == NK_OUT_OF_RANGE, "damage %u, %s of %zu: answered %u", way, names[at_damage[i].kind],
-                    at_damage[i].len, a.number);
-                check(same_fields(&k, &damaged), "damage %u, %s of %zu: the record changed", way, names[at_damage[i].kind],
-                    at_damage[i].len);
-                k = damaged;
-            }
+            check_damaged(&k, "damage", way);
         }
+    check(!damage(&k, DAMAGES), "there are more ways to be out of range than are tried");
     end();
 
     begin("at the edge of the range, one field at a time, at every call");
@@ -552,11 +581,6 @@ static void worked_cases(void) {
     begin("worked cases, by their numbers");
     struct nk_keeper k;
     struct nk_answer a;
-    make(&k);
-    a = try(&k, event_of(1, 1024, 0));
-    ANSWERED(a, NK_DONE, 0, 0, 0);
-    COUNTS(k, 60, 0);
-
     make(&k);
     a = try(&k, seed_of(22, 170, 7));
     ANSWERED(a, NK_DONE, 0, 0, 0);
@@ -628,6 +652,7 @@ static void worked_cases(void) {
         {0, 0}, {1, 0}, {2, 1}, {3, 1}, {4, 2}, {2047, 10}, {2048, 11}, {4096, 11}, {0x80000000, 11}, {0xffffffff, 0}, {0xfffffffe, 1}};
     for (size_t i = 0; i < sizeof estimates / sizeof *estimates; i++) {
         make(&k);
+        let_three_come(&k, 2);
         a = try(&k, event_of(2, estimates[i].clock, 1));
         COUNTS(k, estimates[i].bits * 8 * 3 / 4, 0);
     }
@@ -637,6 +662,7 @@ static void worked_cases(void) {
         const struct call credits[] = {seed_of(1, 1, 50), interrupt_at(2000), event_of(4, 2, 1)};
         for (size_t i = 0; i < sizeof credits / sizeof *credits; i++) {
             make(&k);
+            let_three_come(&k, 4);
             k.ledger.input.count = count;
             a = try(&k, credits[i]);
             ANSWERED(a, NK_DONE, 0, 0, count == 1019 ? 16 : 0);
@@ -676,6 +702,165 @@ static void worked_cases(void) {
     k.generator[12] = k.generator[13] = 0xffffffff;
     a = try(&k, read_of(32, 7));
     check(k.generator[12] == 0 && k.generator[13] == 0, "the counter's end");
+    end();
+}
+
+/* New devices: the first three kept events of each are mixed, and their timers kept, for no credit. From the fourth on the estimate is
+   earned. */
+
+/* The clocks of a device's first five events, all of which would earn, and what is there after each: differences, how many came, the
+   input count. The fourth is the first that earns: by its third difference, 300, which goes back to the first event, 8 bits or 48 units;
+   the fifth by its second difference, 100, 6 bits or 35 units onto those. */
+static const struct { uint32_t clock; int64_t first, second; uint8_t came; uint32_t count; } first_events[] = {
+    {1500, 1500, 1500, 1, 0}, {5500, 4000, 2500, 2, 0}, {13000, 7500, 3500, 3, 0}, {24300, 11300, 3800, 3, 48}, {35700, 11400, 100, 3, 83}};
+enum { FIRST_EVENTS = sizeof first_events / sizeof *first_events };
+
+/* The values differ, so that device 0 repeats none. */
+static struct call first_event(uint32_t device, unsigned i) {
+    return event_of(device, first_events[i].clock, i + 1);
+}
+
+/* The timer of a device after the first i + 1 of these events. */
+static void check_timer(const struct nk_keeper *k, uint32_t d, unsigned i) {
+    check(k->clocks[d] == first_events[i].clock && k->firsts[d] == first_events[i].first && k->seconds[d] == first_events[i].second,
+        "device %u, event %u: clock %u, differences %" PRId64 " and %" PRId64, d, i + 1, k->clocks[d], k->firsts[d], k->seconds[d]);
+    check(k->came[d] == first_events[i].came, "device %u, event %u: %u came", d, i + 1, k->came[d]);
+}
+
+/* One device by itself, each of them. */
+static void check_first_events(void) {
+    struct nk_keeper k;
+    for (uint32_t d = 0; d < NK_DEVICES; d++) {
+        make(&k);
+        for (unsigned i = 0; i < FIRST_EVENTS; i++) {
+            uint32_t input[NK_INPUT_WORDS];
+            memcpy(input, k.input, sizeof input);
+            struct nk_answer a = try(&k, first_event(d, i));
+            ANSWERED(a, NK_DONE, 0, 0, 0);
+            COUNTS(k, first_events[i].count, 0);
+            check_timer(&k, d, i);
+            check(k.ledger.input.spot.at == 128 - 16 * (i + 1) && memcmp(input, k.input, sizeof input) != 0,
+                "device %u, event %u is not mixed", d, i + 1);
+            for (uint32_t e = 0; e < NK_DEVICES; e++) check(e == d || k.came[e] == 0, "device %u counts for device %u", d, e);
+        }
+    }
+    /* the case that was worth 60 units, and another clock of 10 bits */
+    static const uint32_t clocks[] = {1024, 1500};
+    for (size_t i = 0; i < sizeof clocks / sizeof *clocks; i++) {
+        make(&k);
+        struct nk_answer a = try(&k, event_of(1, clocks[i], 0));
+        ANSWERED(a, NK_DONE, 0, 0, 0);
+        COUNTS(k, 0, 0);
+    }
+}
+
+/* Two devices in turn, each with its own count: the one that came first earns first, and nobody earns by the other's events. */
+static void check_two_devices(void) {
+    static const uint32_t pairs[][2] = {{0, 1}, {1, 0}, {3, 9}, {15, 14}, {7, 8}};
+    for (size_t p = 0; p < sizeof pairs / sizeof *pairs; p++) {
+        static const uint32_t counts[2][FIRST_EVENTS] = {{0, 0, 0, 48, 130}, {0, 0, 0, 95, 165}};
+        struct nk_keeper k;
+        make(&k);
+        for (unsigned i = 0; i < FIRST_EVENTS; i++)
+            for (unsigned who = 0; who < 2; who++) {
+                uint32_t d = pairs[p][who], other = pairs[p][!who];
+                struct nk_answer a = try(&k, first_event(d, i));
+                ANSWERED(a, NK_DONE, 0, 0, 0);
+                COUNTS(k, counts[who][i], 0);
+                check_timer(&k, d, i);
+                if (who == 1 || i > 0) check_timer(&k, other, who == 1 ? i : i - 1);
+            }
+    }
+}
+
+/* A 7 in between does not count: not at first, and not after any event of device 0. */
+static void check_repeated(void) {
+    struct nk_keeper k;
+    make(&k);
+    check(try(&k, event_of(0, 900, 0)).number == NK_REPEATED && k.came[0] == 0, "a 7 before the first event counts");
+    for (unsigned i = 0; i < FIRST_EVENTS; i++) {
+        struct nk_answer a = try(&k, first_event(0, i));
+        ANSWERED(a, NK_DONE, 0, 0, 0);
+        for (uint32_t again = 1; again <= 3; again++) {
+            check(try(&k, event_of(0, first_events[i].clock + 777 * again, i + 1)).number == NK_REPEATED, "no 7 after event %u", i + 1);
+            check_timer(&k, 0, i);
+            COUNTS(k, first_events[i].count, 0);
+        }
+    }
+}
+
+/* What is not a kept event leaves the numbers as they were: events that are refused, and the other calls. */
+static void check_not_counted(void) {
+    struct nk_keeper k, ready;
+    make_ready(&ready);
+    ready.ledger.value = 9;
+    for (uint8_t came = 0; came <= 3; came++) {
+        uint8_t all[NK_DEVICES];
+        memset(all, came, sizeof all);
+        k = ready;
+        memcpy(k.came, all, sizeof all);
+        check(try(&k, event_of(0, 9000, 9)).number == NK_REPEATED, "no 7");
+        static const uint32_t devices[] = {16, 17, 255, 256, UINT32_MAX};
+        for (size_t i = 0; i < sizeof devices / sizeof *devices; i++)
+            check(try(&k, event_of(devices[i], 9000, 1)).number == NK_NO_SUCH_DEVICE, "no 4 for device %u", devices[i]);
+        k.ledger.spill.tally = 64;
+        for (uint32_t d = 0; d <= NK_DEVICES; d++) check(try(&k, event_of(d, 9000, 1)).number == NK_OUT_OF_RANGE, "no 17");
+        k.ledger.spill.tally = 0;
+        check(memcmp(k.came, all, sizeof all) == 0, "an event that was refused counts, %u came", came);
+        const struct call others[] = {interrupt_at(9000), write_of(40), seed_of(40, 300, 9000), read_of(40, 900000), blocking_read_of(40)};
+        for (size_t i = 0; i < sizeof others / sizeof *others; i++) {
+            check(try(&k, others[i]).number == NK_DONE, "%s is refused", names[others[i].kind]);
+            check(memcmp(k.came, all, sizeof all) == 0, "%s counts as an event, %u came", names[others[i].kind], came);
+        }
+    }
+}
+
+/* By the number that is there before the event and nothing else: below 3 it earns nothing, and seeds nothing, however full the pool is. */
+static void check_each_number(void) {
+    struct nk_keeper k;
+    for (uint32_t d = 0; d < NK_DEVICES; d++)
+        for (uint8_t came = 0; came <= 3; came++) {
+            make(&k);
+            k.came[d] = came;
+            try(&k, event_of(d, 1024, 5));
+            COUNTS(k, came == 3 ? 60 : 0, 0);
+            check(k.came[d] == (came < 3 ? came + 1 : 3), "device %u: %u came after %u", d, k.came[d], came);
+
+            make(&k);
+            k.came[d] = came;
+            k.ledger.input.count = 32768;
+            struct nk_answer a = try(&k, event_of(d, 1024, 5));
+            ANSWERED(a, NK_DONE, 0, 0, came == 3 ? 32 : 0);
+            check(k.ledger.seeding.mark == (came == 3), "device %u, %u came: seeded, or not", d, came);
+        }
+}
+
+/* However many events come, the number stays in range. */
+static void check_never_above(void) {
+    struct nk_keeper k;
+    make(&k);
+    for (uint32_t i = 0; i < 40 * NK_DEVICES; i++) {
+        uint32_t d = i % NK_DEVICES, events = i / NK_DEVICES + 1;
+        check(try(&k, event_of(d, 1000 * events + i * i % 997, i + 1)).number == NK_DONE, "event %u of device %u is refused", events, d);
+        check(k.came[d] == (events < 3 ? events : 3), "device %u: %u came after %u events", d, k.came[d], events);
+    }
+}
+
+static void new_devices(void) {
+    begin("new devices");
+    check_first_events();
+    check_two_devices();
+    check_repeated();
+    check_not_counted();
+    check_each_number();
+    check_never_above();
+    /* one more than three is out of range, on any device */
+    for (uint32_t d = 0; d < NK_DEVICES; d++) {
+        struct nk_keeper k;
+        make_ready(&k);
+        k.came[d] = 4;
+        check_damaged(&k, "4 came on device", d);
+    }
     end();
 }
 
@@ -842,7 +1027,7 @@ static size_t random_length(void) {
 }
 
 static void random_calls(uint64_t seed) {
-    unsigned seen[8] = {0}, damaged = 0;
+    unsigned seen[8] = {0}, damaged = 0, came_before[4] = {0}, earned = 0;
     char name[80];
     snprintf(name, sizeof name, "%d random calls, seed %" PRIu64, RANDOM_CALLS, seed);
     begin(name);
@@ -875,14 +1060,19 @@ static void random_calls(uint64_t seed) {
         default: c.now = random_now(k.ledger.seeding.clock, 300000);
         }
         c.credit = below(4) ? (uint32_t)(c.len * 8) / (1 + below(30)) : (uint32_t)(c.len * 8) + below(2);
+        unsigned came = k.came[c.device & 15];
+        uint32_t count = k.ledger.input.count;
         struct nk_answer a = try(&k, c);
         if (a.number < 8) seen[a.number]++;
+        if (a.number == NK_DONE && c.kind == EVENT) came_before[came & 3]++, earned += k.ledger.input.count != count;
         check(number_of(k, write_of(0)) == NK_DONE, "random call %d left the record out of range", n);
     }
     /* the calls must have come by every answer that they can have, or they test less than they seem to */
     for (unsigned number = 0; number < 8; number++)
         if (number != NK_START_NOT_48) check(seen[number] > 0, "no random call was answered %u", number);
     check(damaged > 0, "no random call met a damaged record");
+    for (unsigned came = 0; came <= 3; came++) check(came_before[came] > 0, "no random event had %u before it", came);
+    check(earned > 0, "no random event earned");
     end();
 }
 
@@ -896,6 +1086,7 @@ int main(int argc, char **argv) {
     refusals();
     out_of_range();
     worked_cases();
+    new_devices();
     header_says();
     lengths();
     random_calls(seed);

@@ -23,12 +23,13 @@ static struct nk_answer nothing(void) {
 /* volatile, so that the compiler has to make the call */
 static struct nk_answer (*volatile do_nothing)(void) = nothing;
 
-/* The situations. Each begins with the keeper ready: seeded at clock 5,000, both pools with credit. */
+/* The situations. Each begins with the keeper ready: seeded at clock 5,000, both pools with credit, no device new. */
 
 static void empty(void) { answer = do_nothing(); }
 static void make(void) { answer = nk_make(&keeper, bytes, 48); }
 static void make_refused(void) { answer = nk_make(&keeper, bytes, 47); }
 static void event(void) { answer = nk_event(&keeper, 3, 9000, 1, 2); }
+static void event_of_new_device(void) { keeper.came[3] = 0; answer = nk_event(&keeper, 3, 9000, 1, 2); }
 static void event_seeds(void) { keeper.ledger.seeding.mark = 0; answer = nk_event(&keeper, 0, 9000, 1, 2); }
 static void event_refused(void) { answer = nk_event(&keeper, 16, 9000, 1, 2); }
 static void interrupt(void) { answer = nk_interrupt(&keeper, 100, 1, 2, 3); }
@@ -62,6 +63,7 @@ static const struct situation situations[] = {
     {"nk_make", make, NK_DONE, 0},
     {NULL, make_refused, NK_START_NOT_48, 0},
     {"nk_event", event, NK_DONE, 0},
+    {NULL, event_of_new_device, NK_DONE, 0},
     {NULL, event_seeds, NK_DONE, 1},
     {NULL, event_refused, NK_NO_SUCH_DEVICE, 0},
     {"nk_interrupt", interrupt, NK_DONE, 0},
@@ -92,6 +94,7 @@ static void ready(void) {
     keeper.ledger.blocking.count = 4000;
     keeper.ledger.seeding.mark = 1;
     keeper.ledger.seeding.clock = 5000;
+    memset(keeper.came, 3, sizeof keeper.came);
 }
 
 static size_t used_over(void (*call)(void), uint8_t pattern) {

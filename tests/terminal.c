@@ -49,7 +49,8 @@ static void ask_for_keys(void) {
     lasting_keys++;
 }
 
-/* Time goes by in uneven steps, so that a keeper without a seed is seeded after some ten of them. */
+/* Time goes by in uneven steps, so that a keeper without a seed is seeded after some fifteen of them: its devices are new, and earn nothing
+   in the first three. */
 static void step(void) {
     uint32_t x = ++script * 0x9e3779b1u;
     ticks += 50 + ((x ^ x >> 15) * 0x85ebca77u >> 19);
@@ -99,7 +100,7 @@ static void all_well(void) {
 /* A life in which nothing goes wrong. With a seed, keys come at the first turn. */
 static void good_life(const char *after) {
     all_well();
-    check(life(14, SHUT_DOWN) && keys >= 2, "after %s: no keys", after);
+    check(life(17, SHUT_DOWN) && keys >= 2, "after %s: no keys", after);
 }
 
 static void commission_all(void) {
@@ -320,6 +321,7 @@ static void hits_between_turns(void) {
         case 0: k->ledger.seeding.mark ^= 1; break; /* a mark that turns into a yes */
         case 3: k->ledger.input.count ^= 0x4000; break; /* credit that comes from nowhere */
         case 6: k->ledger.blocking.count ^= 0x1000; break;
+        case 9: k->came[TERMINAL_RADIO] ^= 3; break; /* a new device that is none any more */
         default: *byte ^= (uint8_t)(1u << below(8));
         }
         may_make = true;
@@ -346,7 +348,7 @@ static void hits_without_seeds(void) {
             memset(here->cells[CELL_SEED], 0, CELL_LENGTH);
             keys = 0;
             if (i > 0) turn(); /* which makes the keeper */
-            for (unsigned n = 0; n < 16; n++) turn();
+            for (unsigned n = 0; n < 19; n++) turn();
             check(keys > 2, "round %u, keeper %u: %u keys", round, i, keys);
             memset(here->cells[CELL_SEED], 0, CELL_LENGTH);
             plan.hit_way = below(DAMAGES);
@@ -639,14 +641,19 @@ static void stop_it(void) { terminal_stop(&terminal), done = true; }
 static void take_seed(void) { done = store_take_seed(taken_seed); }
 static void read_keeper(void) { done = __real_nk_read(&terminal.keeper, ticks, room, sizeof room).number == NK_DONE; }
 
-/* Whether eight bytes in a row of a secret are on the stack, of which no call here uses more than its top. Zeros are everywhere, and tell
-   nothing. */
+/* Bytes that are all alike tell nothing: memory was filled with them, with zeros or when power came on, and they may be anywhere, in a
+   register that a call saves too. */
+static bool is_filling(const uint8_t *bytes, size_t len) {
+    return memcmp(bytes, bytes + 1, len - 1) == 0;
+}
+
+/* Whether eight bytes in a row of a secret are on the stack, of which no call here uses more than its top. */
 static bool stays(const void *secret, size_t len) {
     enum { ROW = 8, TOP = 6144 };
     const uint8_t *from = secret, *end = own_stack + sizeof own_stack;
     check(end[-TOP] == PATTERN && end[-TOP - 1] == PATTERN, "more of the stack is used than is looked at");
     for (size_t i = 0; i + ROW <= len; i += 4)
-        for (const uint8_t *at = end - TOP; at + ROW <= end && !is_clear(from + i, ROW); at++)
+        for (const uint8_t *at = end - TOP; at + ROW <= end && !is_filling(from + i, ROW); at++)
             if (memcmp(from + i, at, ROW) == 0) return true;
     return false;
 }

@@ -58,6 +58,11 @@ static size_t bytes(char **rest, uint8_t *to) {
 
 static uint32_t word32(char **rest) { return (uint32_t)strtoul(word(rest), NULL, 16); }
 
+static uint8_t byte(uint64_t n) {
+    if (n > UINT8_MAX) fail("a number that its field cannot hold");
+    return (uint8_t)n;
+}
+
 static struct nk_keeper record(char **rest) {
     static struct nk_keeper k;
     struct nk_ledger *l = &k.ledger;
@@ -75,6 +80,7 @@ static struct nk_keeper record(char **rest) {
     for (int i = 0; i < NK_DEVICES; i++) k.clocks[i] = (uint32_t)number(rest);
     for (int i = 0; i < NK_DEVICES; i++) k.firsts[i] = strtoll(word(rest), NULL, 10);
     for (int i = 0; i < NK_DEVICES; i++) k.seconds[i] = strtoll(word(rest), NULL, 10);
+    for (int i = 0; i < NK_DEVICES; i++) k.came[i] = byte(number(rest));
     for (int i = 0; i < NK_INPUT_WORDS; i++) k.input[i] = word32(rest);
     for (int i = 0; i < NK_BLOCKING_WORDS; i++) k.blocking[i] = word32(rest);
     for (int i = 0; i < NK_FAST_WORDS; i++) k.fast[i] = word32(rest);
@@ -111,6 +117,7 @@ static void put(char *rest) {
     else if (!strcmp(field, "clock") && i < NK_DEVICES) k->clocks[i] = n;
     else if (!strcmp(field, "d1") && i < NK_DEVICES) k->firsts[i] = z;
     else if (!strcmp(field, "d2") && i < NK_DEVICES) k->seconds[i] = z;
+    else if (!strcmp(field, "came") && i < NK_DEVICES) k->came[i] = byte((uint64_t)z);
     else if (!strcmp(field, "input-word")) k->input[i] = n;
     else if (!strcmp(field, "blocking-word") && i < NK_BLOCKING_WORDS) k->blocking[i] = n;
     else if (!strcmp(field, "fast-word") && i < NK_FAST_WORDS) k->fast[i] = n;

@@ -34,11 +34,12 @@ pub const FORMAT: &str = "\
 # room BYTES                          the room after the call; - where there is none
 # keeper FIELDS                       the whole record, or the word none before it is made
 #
-# FIELDS, in this order, 11 + 48 + 180 words:
+# FIELDS, in this order, 11 + 64 + 180 words:
 #   input count, blocking count, input position, blocking position,
 #   input rotation, blocking rotation, device 0's last value, tally,
 #   last spill, seeded (0 or 1), seeding clock,
-#   16 clocks, 16 d1, 16 d2 (devices 0 to 15),
+#   16 clocks, 16 d1, 16 d2, 16 came (devices 0 to 15 each; came is how many
+#   kept events of the device came so far, up to 3),
 #   128 WORDs of the input pool, 32 of the blocking pool, 4 of the fast pool,
 #   16 of the generator
 #
@@ -46,8 +47,9 @@ pub const FORMAT: &str = "\
 # put FIELD INDEX VALUE               VALUE decimal for all fields
 # FIELD is one of input-count blocking-count input-position blocking-position
 # input-rotation blocking-rotation last-value tally last-spill seeded
-# seeding-clock clock d1 d2 input-word blocking-word fast-word generator-word.
-# INDEX is the device or word, and 0 where there is only one.
+# seeding-clock clock d1 d2 came input-word blocking-word fast-word
+# generator-word. INDEX is the device or word, and 0 where there is only one.
+# A came is a byte: its VALUE is 0 to 255, and above 3 it is out of range.
 ";
 
 /// The hex of bytes, never an empty word.
@@ -110,7 +112,8 @@ fn keeper_line(k: &Keeper) -> String {
     let clocks = k.timers.iter().map(|t| i64::from(t.clock));
     let firsts = k.timers.iter().map(|t| t.d1);
     let seconds = k.timers.iter().map(|t| t.d2);
-    for number in clocks.chain(firsts).chain(seconds) {
+    let came = k.timers.iter().map(|t| i64::from(t.came));
+    for number in clocks.chain(firsts).chain(seconds).chain(came) {
         line += &format!(" {number}");
     }
     let pools = k.input.words.iter().chain(&k.blocking.words);
@@ -143,6 +146,7 @@ fn get(k: &Keeper, Place { field, index }: Place) -> i64 {
         "clock" => k.timers[index].clock,
         "d1" => return k.timers[index].d1,
         "d2" => return k.timers[index].d2,
+        "came" => k.timers[index].came,
         "input-word" => k.input.words[index],
         "blocking-word" => k.blocking.words[index],
         "fast-word" => k.fast[index],
@@ -168,6 +172,7 @@ fn put(k: &mut Keeper, Place { field, index }: Place, value: i64) {
         "clock" => k.timers[index].clock = word,
         "d1" => k.timers[index].d1 = value,
         "d2" => k.timers[index].d2 = value,
+        "came" => k.timers[index].came = word,
         "input-word" => k.input.words[index] = word,
         "blocking-word" => k.blocking.words[index] = word,
         "fast-word" => k.fast[index] = word,
@@ -195,6 +200,7 @@ fn ways_out() -> Vec<(Place, i64)> {
     for device in 0..DEVICES {
         way("d1", device, &[1 << 31, -(1 << 31) - 1]);
         way("d2", device, &[1 << 32, -(1 << 32)]);
+        way("came", device, &[4, 5, 128, 255]);
     }
     way("d1", 7, &[i64::MAX, i64::MIN]);
     way("d2", 7, &[i64::MAX, i64::MIN]);
@@ -209,7 +215,7 @@ fn edge(random: &mut Random) -> (Place, i64) {
     let any = i64::from(random.u32());
     let clock = random.pick(&[0, any, 1 << 31, u32::MAX.into()]);
     let device = random.below(DEVICES as u64) as usize;
-    let (field, index, value) = match random.below(18) {
+    let (field, index, value) = match random.below(20) {
         0 | 1 => {
             let counts = [
                 0, 63, 64, 511, 512, 1_023, 1_024, 2_047, 2_048, 4_096, 32_761, 32_762, 32_766,
@@ -246,6 +252,7 @@ fn edge(random: &mut Random) -> (Place, i64) {
         14 => ("last-spill", 0, clock),
         15 => ("clock", device, clock),
         16 => ("last-value", 0, random.pick(&[0, 1, any])),
+        17 | 18 => ("came", device, random.pick(&[0, 1, 2, 3])),
         _ => {
             let index = random.below(32) as usize;
             match random.below(3) {
@@ -300,12 +307,43 @@ impl Trace<'_> {
         writeln!(self.out, "{}", keeper_line(&self.keeper))
     }
 
+    fn put_came(&mut self, device: u8, came: i64) -> io::Result<()> {
+        let place = Place {
+            field: "came",
+            index: usize::from(device),
+        };
+        self.put(place, came)
+    }
+
+    /// Says of each device how many of its events came, of most of them enough
+    /// for the next to earn: few devices come four times in one sequence.
+    fn devices_that_came(&mut self, random: &mut Random) -> io::Result<()> {
+        for device in 0..DEVICES as u8 {
+            let came = random.pick(&[0, 1, 2, 3, 3, 3, 3, 3]);
+            self.put_came(device, came)?;
+        }
+        Ok(())
+    }
+
+    /// An event of a device right after it was said how many came before.
+    fn event_after(&mut self, random: &mut Random, now: u32) -> io::Result<()> {
+        let device = random.below(DEVICES as u64) as u8;
+        let came = random.pick(&[0, 1, 2, 2, 3]);
+        self.put_came(device, came)?;
+        let record = event(random, device, now);
+        self.call(random, &record)
+    }
+
     /// Gives a fresh keeper a count that would seed it, which no journal can.
     /// Nothing seeds it then but a credit, and one does even to a full pool.
     fn unseeded_with_enough(&mut self, random: &mut Random) -> io::Result<()> {
         let field = "input-count";
         let count = random.pick(&[1_024, 1_025, 2_048, 32_767, 32_768]);
         self.put(Place { field, index: 0 }, count)?;
+        self.put_came(WORTH_NOTHING, 3)?;
+        self.put_came(WORTH_ONE_BIT, 3)?;
+        let too_few = random.pick(&[0, 1, 2]);
+        self.put_came(NEW, too_few)?;
         for record in crediting_nothing(random) {
             self.call(random, &record)?;
         }
@@ -314,8 +352,14 @@ impl Trace<'_> {
     }
 }
 
+/// The devices of the events that an unseeded keeper with enough meets: two of
+/// which three events came, and one of which fewer did.
+const WORTH_NOTHING: u8 = 3;
+const WORTH_ONE_BIT: u8 = 4;
+const NEW: u8 = 5;
+
 /// Calls that credit nothing to a fresh keeper, though most of them mix.
-fn crediting_nothing(random: &mut Random) -> [Record<'static>; 7] {
+fn crediting_nothing(random: &mut Random) -> [Record<'static>; 8] {
     // An event within one tick of its device's clock is worth nothing.
     let one_tick = random.pick(&[0, 1, u32::MAX]);
     [
@@ -325,7 +369,9 @@ fn crediting_nothing(random: &mut Random) -> [Record<'static>; 7] {
             now: random.u32(),
             bytes: random.bytes(5).into(),
         },
-        event(random, 3, one_tick),
+        event(random, WORTH_NOTHING, one_tick),
+        // Worth 10 bits, but its device is new.
+        event(random, NEW, 1_024),
         interrupt(random, 1_000),
         Record::Generator {
             now: random.u32(),
@@ -340,7 +386,7 @@ fn crediting_nothing(random: &mut Random) -> [Record<'static>; 7] {
 fn crediting_one_bit(random: &mut Random) -> Record<'static> {
     match random.below(3) {
         0 => seed(random, 1, 1),
-        1 => event(random, 4, 3),
+        1 => event(random, WORTH_ONE_BIT, 3),
         _ => interrupt(random, 1_001),
     }
 }
@@ -398,6 +444,9 @@ pub fn calls(seed: u64, count: u64, out: &mut dyn Write) -> io::Result<()> {
         if number % UNSEEDED_EVERY == 1 {
             trace.unseeded_with_enough(random)?;
         }
+        if !random.one_in(3) {
+            trace.devices_that_came(random)?;
+        }
         let pace = Pace::any(random);
         let mut now = first_clock(random);
         if random.one_in(2) {
@@ -408,7 +457,7 @@ pub fn calls(seed: u64, count: u64, out: &mut dyn Write) -> io::Result<()> {
         }
         for _ in 0..random.between(8, 24) {
             now = pace.next(random, now);
-            match random.below(6) {
+            match random.below(7) {
                 0 => {
                     let (place, value) = ways.next().expect("a cycle goes on");
                     let kept = get(&trace.keeper, place);
@@ -421,6 +470,7 @@ pub fn calls(seed: u64, count: u64, out: &mut dyn Write) -> io::Result<()> {
                     trace.put(place, value)?;
                     trace.any_call(random, now)?;
                 }
+                2 => trace.event_after(random, now)?,
                 _ => trace.any_call(random, now)?,
             }
         }
@@ -431,6 +481,7 @@ pub fn calls(seed: u64, count: u64, out: &mut dyn Write) -> io::Result<()> {
 #[cfg(test)]
 mod tests {
     use super::*;
+    use crate::credits::estimate;
     use crate::keeper::OUT_OF_RANGE;
     use std::collections::BTreeSet;
 
@@ -454,7 +505,7 @@ mod tests {
         word.parse().ok().unwrap()
     }
 
-    const FIELDS: [&str; 18] = [
+    const FIELDS: [&str; 19] = [
         "input-count",
         "blocking-count",
         "input-position",
@@ -469,6 +520,7 @@ mod tests {
         "clock",
         "d1",
         "d2",
+        "came",
         "input-word",
         "blocking-word",
         "fast-word",
@@ -562,47 +614,105 @@ mod tests {
         }
     }
 
-    /// Reads off a trace's text the calls that were done on a keeper which was
-    /// unseeded with a count of 1,024 or more, and whether they seeded it.
-    fn done_unseeded_with_enough(text: &str) -> BTreeSet<(String, bool)> {
-        let mut done = BTreeSet::new();
-        let (mut count, mut seeded) = (0, false);
-        let mut call = "";
+    /// A call that was done, by a trace's text alone.
+    struct Done<'a> {
+        call: Vec<&'a str>,
+        /// The words of the keeper's lines before and after it, the fields that
+        /// were put in between among the former.
+        before: Vec<String>,
+        after: Vec<&'a str>,
+    }
+
+    /// Where in a keeper's line a field is that these tests look at.
+    fn word_at(field: &str, index: usize) -> Option<usize> {
+        let first = match field {
+            "input-count" => 1,
+            "seeded" => 10,
+            "clock" => 12,
+            "d1" => 28,
+            "d2" => 44,
+            "came" => 60,
+            _ => return None,
+        };
+        Some(first + index)
+    }
+
+    fn done(text: &str) -> Vec<Done<'_>> {
+        let mut done = Vec::new();
+        let mut before: Vec<String> = Vec::new();
+        let mut call = Vec::new();
         let mut answer = "";
         for line in text.lines().filter(|l| !l.starts_with('#')) {
             let w: Vec<&str> = line.split(' ').collect();
             match w[0] {
                 "sequence" | "room" => {}
-                "put" if w[1] == "input-count" => count = number(w[3]),
-                "put" if w[1] == "seeded" => seeded = w[3] != "0",
-                "put" => {}
+                "put" => {
+                    if let Some(at) = word_at(w[1], number(w[2])) {
+                        before[at] = w[3].to_owned();
+                    }
+                }
                 "answer" => answer = w[1],
                 "keeper" if w[1] == "none" => {}
                 "keeper" => {
-                    let seeds = w[10] == "1";
-                    if answer == "0" && !seeded && count >= 1_024 {
-                        let words: Vec<&str> = call.split(' ').collect();
-                        let name = match words[..] {
-                            ["seed", _, "0", "-"] => "empty seed of 0 bits",
-                            ["seed", _, "0", _] => "seed of 0 bits",
-                            ["seed", ..] => "seed",
-                            _ => words[0],
-                        };
-                        done.insert((name.to_owned(), seeds));
+                    let words = w.iter().map(|word| (*word).to_owned()).collect();
+                    if answer == "0" && call[0] != "make" {
+                        done.push(Done {
+                            call: call.clone(),
+                            before: before.clone(),
+                            after: w,
+                        });
                     }
-                    count = number(w[1]);
-                    seeded = seeds;
+                    before = words;
                 }
-                _ => call = line,
+                _ => call = w,
             }
         }
         done
+    }
+
+    impl Done<'_> {
+        fn before(&self, field: &str, index: usize) -> i64 {
+            number(&self.before[word_at(field, index).unwrap()])
+        }
+
+        fn after(&self, field: &str, index: usize) -> i64 {
+            number(self.after[word_at(field, index).unwrap()])
+        }
+
+        /// The device of an event.
+        fn device(&self) -> Option<usize> {
+            (self.call[0] == "device").then(|| number(self.call[2]))
+        }
+
+        fn came(&self) -> Option<i64> {
+            self.device().map(|device| self.before("came", device))
+        }
+
+        fn name(&self) -> &str {
+            match self.call[..] {
+                ["seed", _, "0", "-"] => "empty seed of 0 bits",
+                ["seed", _, "0", _] => "seed of 0 bits",
+                ["device", ..] if self.came() < Some(3) => "event of a new device",
+                _ => self.call[0],
+            }
+        }
+    }
+
+    /// The calls that were done on a keeper which was unseeded with a count of
+    /// 1,024 or more, and whether they seeded it.
+    fn done_unseeded_with_enough(text: &str) -> BTreeSet<(String, bool)> {
+        done(text)
+            .iter()
+            .filter(|d| d.before("seeded", 0) == 0 && d.before("input-count", 0) >= 1_024)
+            .map(|d| (d.name().to_owned(), d.after("seeded", 0) == 1))
+            .collect()
     }
 
     #[test]
     fn the_first_sequence_leaves_an_unseeded_keeper_with_enough_alone() {
         let nothing = [
             "device",
+            "event of a new device",
             "empty seed of 0 bits",
             "interrupt",
             "seed of 0 bits",
@@ -621,10 +731,51 @@ mod tests {
         assert_eq!(seeders, ["device", "interrupt", "seed"]);
     }
 
+    /// How many of the events that find so many events before them, on a pool
+    /// that is not full, are worth something, and how many earn.
+    fn worthy_and_earning(done: &[Done], came: i64) -> (usize, usize) {
+        let found = |d: &&Done| d.came() == Some(came) && d.before("input-count", 0) < 30_000;
+        let events: Vec<&Done> = done.iter().filter(found).collect();
+        let worthy = |d: &&&Done| {
+            let device = d.device().unwrap();
+            let d2 = d.after("d2", device);
+            estimate(d.after("d1", device), d2, d2 - d.before("d2", device)) > 0
+        };
+        let earning = |d: &&&Done| d.after("input-count", 0) != d.before("input-count", 0);
+        let worthy = events.iter().filter(worthy).count();
+        (worthy, events.iter().filter(earning).count())
+    }
+
+    #[test]
+    fn events_of_new_devices_are_worth_something_and_earn_nothing() {
+        let text = trace(8, 120);
+        let done = done(&text);
+        for came in 0..3 {
+            let (worthy, earning) = worthy_and_earning(&done, came);
+            assert!(worthy >= 30, "{came}: {worthy}");
+            assert_eq!(earning, 0);
+        }
+        let (worthy, earning) = worthy_and_earning(&done, 3);
+        assert!(worthy >= 100, "{worthy}");
+        assert_eq!(earning, worthy);
+    }
+
+    #[test]
+    fn each_event_that_is_done_counts_up_to_three() {
+        let text = trace(9, 60);
+        for d in done(&text) {
+            for device in 0..DEVICES {
+                let before = d.before("came", device);
+                let counts = d.device() == Some(device) && before < 3;
+                assert_eq!(d.after("came", device), before + i64::from(counts));
+            }
+        }
+    }
+
     #[test]
     fn a_keeper_line_has_all_its_words() {
         let keeper = Keeper::make(&[0; START]).unwrap();
         let line = keeper_line(&keeper);
-        assert_eq!(line.split(' ').count(), 1 + 11 + 48 + 180);
+        assert_eq!(line.split(' ').count(), 1 + 11 + 64 + 180);
     }
 }

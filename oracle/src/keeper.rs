@@ -33,6 +33,9 @@ const SEED_COUNT: u32 = 1_024;
 const D1_LEAST: i64 = -(1 << 31);
 const D1_MOST: i64 = (1 << 31) - 1;
 const D2_MOST: i64 = (1 << 32) - 1;
+/// The kept events of a device that have to come before one earns; no more
+/// than these are counted.
+pub const CAME_MOST: u32 = 3;
 
 /// What a device left behind at its last event.
 #[derive(Clone, Copy, Debug, Default, PartialEq)]
@@ -40,6 +43,44 @@ pub struct Timer {
     pub clock: u32,
     pub d1: i64,
     pub d2: i64,
+    /// How many kept events came so far, up to three.
+    pub came: u32,
+}
+
+impl Timer {
+    fn in_range(&self) -> bool {
+        (D1_LEAST..=D1_MOST).contains(&self.d1)
+            && (-D2_MOST..=D2_MOST).contains(&self.d2)
+            && self.came <= CAME_MOST
+    }
+
+    /// The timer once an event at `now` is kept.
+    fn after(&self, now: u32) -> Timer {
+        let d1 = clock_difference(now, self.clock);
+        Timer {
+            clock: now,
+            d1,
+            d2: d1 - self.d1,
+            came: CAME_MOST.min(self.came + 1),
+        }
+    }
+
+    /// The bits that an event at `now` is worth by its three differences,
+    /// whether it earns them or not.
+    pub fn worth(&self, now: u32) -> u32 {
+        let after = self.after(now);
+        estimate(after.d1, after.d2, after.d2 - self.d2)
+    }
+
+    /// The bits that an event at `now` earns. Until the fourth, a difference
+    /// still goes back to the clock of zero that no event had.
+    fn earned(&self, now: u32) -> u32 {
+        if self.came < CAME_MOST {
+            0
+        } else {
+            self.worth(now)
+        }
+    }
 }
 
 #[derive(Clone, Debug, PartialEq)]
@@ -112,9 +153,7 @@ impl Keeper {
         self.input.in_range()
             && self.blocking.in_range()
             && self.tally < SPILL_TALLY
-            && self.timers.iter().all(|t| {
-                (D1_LEAST..=D1_MOST).contains(&t.d1) && (-D2_MOST..=D2_MOST).contains(&t.d2)
-            })
+            && self.timers.iter().all(Timer::in_range)
             && self.generator[..4] == cipher::CONSTANTS
     }
 
@@ -136,11 +175,9 @@ impl Keeper {
         self.input.mix(&value.to_le_bytes());
 
         let timer = &mut self.timers[usize::from(device)];
-        let d1 = clock_difference(now, timer.clock);
-        let d2 = d1 - timer.d1;
-        let d3 = d2 - timer.d2;
-        *timer = Timer { clock: now, d1, d2 };
-        Answer::worked(self.credit_input(estimate(d1, d2, d3), now))
+        let earned = timer.earned(now);
+        *timer = timer.after(now);
+        Answer::worked(self.credit_input(earned, now))
     }
 
     pub fn interrupt(&mut self, now: u32, number: u32, stamp: u64, address: u64) -> Answer {
@@ -376,11 +413,153 @@ mod tests {
         assert_eq!(keeper.timers[4].d2, -2_147_483_648);
     }
 
+    /// Was 60 units, before new devices earned nothing.
     #[test]
     fn device_one_at_1_024() {
         let mut keeper = fresh();
+        assert_eq!(keeper.timers[1].worth(1_024), 10);
         assert_eq!(keeper.device_event(1, 1_024, 9, 9), Answer::default());
-        assert_eq!(keeper.input.count, 60);
+        assert_eq!(keeper.input.count, 0);
+        assert_eq!(keeper.input.position, 112);
+        let expected = Timer {
+            clock: 1_024,
+            d1: 1_024,
+            d2: 1_024,
+            came: 1,
+        };
+        assert_eq!(keeper.timers[1], expected);
+    }
+
+    /// Clocks at which each of five events is worth something.
+    const FIVE: [u32; 5] = [1_024, 1_100, 9_000, 9_500, 70_000];
+
+    /// What the input count rises by at each of these events: a device, its
+    /// clock and its value.
+    fn rises(keeper: &mut Keeper, events: &[(u8, u32, u32)]) -> Vec<u32> {
+        let one = |(device, now, value): &(u8, u32, u32)| {
+            let before = keeper.input.count;
+            keeper.device_event(*device, *now, 9, *value);
+            keeper.input.count - before
+        };
+        events.iter().map(one).collect()
+    }
+
+    #[test]
+    fn the_first_three_events_of_a_device_earn_nothing_and_the_next_two_do() {
+        for device in 0..DEVICES {
+            let mut keeper = fresh();
+            for (now, came) in FIVE.into_iter().zip([0, 1, 2, 3, 3]) {
+                let timer = keeper.timers[device];
+                assert_eq!(timer.came, came);
+                assert!(timer.worth(now) > 0);
+                let expected = if came < 3 { 0 } else { timer.worth(now) };
+                let count = credited(keeper.input.count, INPUT.size, expected);
+                keeper.device_event(device as u8, now, 9, now);
+                assert_eq!(keeper.input.count, count);
+            }
+            assert_eq!(keeper.timers[device].came, 3);
+            assert!(keeper.input.count > 0);
+            let others = (0..DEVICES).filter(|other| *other != device);
+            for other in others {
+                assert_eq!(keeper.timers[other], Timer::default());
+            }
+        }
+    }
+
+    #[test]
+    fn a_timer_is_kept_from_the_first_event_on() {
+        let mut keeper = fresh();
+        let mut kept = Vec::new();
+        for now in FIVE {
+            keeper.device_event(6, now, 9, 9);
+            let Timer {
+                clock,
+                d1,
+                d2,
+                came,
+            } = keeper.timers[6];
+            kept.push((clock, d1, d2, came));
+        }
+        let expected = [
+            (1_024, 1_024, 1_024, 1),
+            (1_100, 76, -948, 2),
+            (9_000, 7_900, 7_824, 3),
+            (9_500, 500, -7_400, 3),
+            (70_000, 60_500, 60_000, 3),
+        ];
+        assert_eq!(kept, expected);
+        // The fourth is worth 8 bits by its first difference, the fifth 11.
+        assert_eq!(keeper.input.count, 48 + 65);
+    }
+
+    #[test]
+    fn a_repeated_event_does_not_count() {
+        let [first, second, third, fourth, fifth] = FIVE;
+        let mut keeper = fresh();
+        let events = [
+            (0, first, 0),
+            (0, first, 5),
+            (0, second, 5),
+            (0, second, 6),
+            (0, third, 6),
+            (0, third, 7),
+            (0, fourth, 7),
+        ];
+        assert_eq!(rises(&mut keeper, &events), [0; 7]);
+        assert_eq!(keeper.timers[0].came, 3);
+        assert_eq!(rises(&mut keeper, &[(0, fourth, 8)]), [48]);
+        assert_eq!(rises(&mut keeper, &[(0, fifth, 8), (0, fifth, 9)]), [0, 65]);
+    }
+
+    #[test]
+    fn a_value_like_the_last_counts_on_other_devices() {
+        let mut keeper = fresh();
+        let events = FIVE.map(|now| (1, now, 0));
+        assert_eq!(rises(&mut keeper, &events), [0, 0, 0, 48, 65]);
+    }
+
+    #[test]
+    fn refused_devices_and_records_out_of_range_do_not_count() {
+        let mut keeper = fresh();
+        let events = [(16, 5_000, 1), (19, 5_000, 1), (255, 5_000, 1)];
+        assert_eq!(rises(&mut keeper, &events), [0; 3]);
+        keeper.tally = 64;
+        assert_eq!(keeper.device_event(3, 5_000, 1, 1).number, OUT_OF_RANGE);
+        keeper.tally = 0;
+        assert_eq!(keeper, fresh());
+    }
+
+    #[test]
+    fn each_device_has_a_count_of_its_own() {
+        let mut keeper = fresh();
+        let events: Vec<(u8, u32, u32)> = FIVE
+            .iter()
+            .flat_map(|now| [(2, *now, 1), (9, *now, 1)])
+            .collect();
+        let expected = [0, 0, 0, 0, 0, 0, 48, 47, 65, 65];
+        assert_eq!(rises(&mut keeper, &events), expected);
+    }
+
+    #[test]
+    fn events_worth_nothing_count() {
+        let mut keeper = fresh();
+        let events = [0, 1, 1, 4].map(|now| (7, now, 1));
+        assert_eq!(rises(&mut keeper, &events), [0, 0, 0, 6]);
+    }
+
+    #[test]
+    fn a_new_device_does_not_seed() {
+        for (came, seeded) in [(0, false), (1, false), (2, false), (3, true)] {
+            for count in [1_023, 1_024, 32_768] {
+                let mut keeper = fresh();
+                keeper.input.count = count;
+                keeper.timers[5].came = came;
+                let answer = keeper.device_event(5, 1_024, 9, 9);
+                assert_eq!(keeper.seeded, seeded);
+                assert_eq!(answer.compressions > 0, seeded);
+                assert_eq!(keeper.input.count == count, !seeded);
+            }
+        }
     }
 
     #[test]
@@ -538,7 +717,7 @@ mod tests {
     #[test]
     fn every_call_refuses_a_record_out_of_range() {
         type Damage = fn(&mut Keeper);
-        let ways: [Damage; 16] = [
+        let ways: [Damage; 19] = [
             |k| k.input.count = 32_769,
             |k| k.input.position = 128,
             |k| k.input.rotation = 32,
@@ -550,6 +729,9 @@ mod tests {
             |k| k.timers[15].d1 = D1_LEAST - 1,
             |k| k.timers[15].d2 = D2_MOST + 1,
             |k| k.timers[0].d2 = -D2_MOST - 1,
+            |k| k.timers[0].came = 4,
+            |k| k.timers[8].came = 128,
+            |k| k.timers[15].came = 255,
             |k| k.generator[0] ^= 1,
             |k| k.generator[1] ^= 1 << 31,
             |k| k.generator[2] = 0,

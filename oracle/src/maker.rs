@@ -12,6 +12,7 @@ mod draft;
 mod headers;
 mod kinds;
 mod mixes;
+mod new_devices;
 mod reseeds;
 mod spills;
 mod thresholds;
@@ -54,14 +55,16 @@ enum Steps {
     Reseed,
     ZeroSeed,
     Devices,
+    NewDevices,
 }
 
 /// The same in turn. A run of 2,000 journals has some 166 of these, and there
 /// are 63 tallies to spill at.
-const STEPS: [Steps; 8] = [
+const STEPS: [Steps; 9] = [
     Steps::TimedSpill,
     Steps::Reseed,
     Steps::TimedSpill,
+    Steps::NewDevices,
     Steps::ZeroSeed,
     Steps::TimedSpill,
     Steps::Reseed,
@@ -99,6 +102,7 @@ fn steps(random: &mut Random, turn: u64) -> Vec<u8> {
         Steps::Reseed => reseeds::reseed(random, turn),
         Steps::ZeroSeed => zero_seeds::zero_seed(random, turn),
         Steps::Devices => devices::devices(random, turn),
+        Steps::NewDevices => new_devices::new_devices(random, turn),
     }
 }
 
@@ -131,7 +135,7 @@ mod tests {
         assert_eq!(sum, JOURNALS_OF_SEED_1);
     }
 
-    const JOURNALS_OF_SEED_1: u64 = 14_165_151_181_352_011_323;
+    const JOURNALS_OF_SEED_1: u64 = 6_783_040_774_515_024_991;
 
     #[test]
     fn all_come_in_their_turn() {

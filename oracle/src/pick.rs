@@ -88,12 +88,13 @@ fn wishes() -> Vec<Wish> {
             &[(UnknownKindFollowed, Any), (Answer(0), Any)],
         ),
         Wish::new(
-            "devices 192 to 255 refused, devices 0 to 15 done",
+            "devices 224 to 255 refused in between, devices 0 to 15 done, their fourth events earn",
             &[
-                (DeviceRefused, Is(192)),
+                (DeviceRefused, Is(224)),
                 (DeviceRefused, Is(255)),
-                (DeviceDone, Is(0)),
-                (DeviceDone, Is(15)),
+                (RefusedDoesNotCount, Any),
+                (EarnsFromTheFourthOn, Is(0)),
+                (EarnsFromTheFourthOn, Is(15)),
             ],
         ),
         Wish::new(
@@ -117,7 +118,45 @@ fn wishes() -> Vec<Wish> {
             &[(HeaderVersion, Is(52))],
         ),
     ]);
+    wishes.extend(new_devices());
     wishes
+}
+
+/// Those of devices that earn nothing at first.
+fn new_devices() -> [Wish; 5] {
+    use Value::{Any, Is};
+    let nothing = [1, 2, 3].map(|nth| (NewDeviceEarnsNothing, Is(nth)));
+    let unseeded = [1, 2, 3].map(|nth| (NewDeviceDoesNotSeed, Is(nth)));
+    [
+        Wish::new(
+            "repeated events in between; three events of device 0 earn nothing, two earn",
+            &[
+                &nothing[..],
+                &[
+                    (RepeatedDoesNotCount, Any),
+                    (EarnsFromTheFourthOn, Is(0)),
+                    (KnownDeviceEarns, Is(5)),
+                ],
+            ]
+            .concat(),
+        ),
+        Wish::new(
+            "two devices in turn, three events of each earn nothing",
+            &[(TwoDevicesInTurn, Any), (KnownDeviceEarns, Is(5))],
+        ),
+        Wish::new(
+            "one bit would seed the keeper; three events of a device do not, the fourth does",
+            &[&unseeded[..], &[(KnownDeviceSeeds, Is(4))]].concat(),
+        ),
+        Wish::new(
+            "one bit would seed the keeper; a device's fourth event is worth nothing, the fifth seeds it",
+            &[&unseeded[..], &[(KnownDeviceSeeds, Is(5))]].concat(),
+        ),
+        Wish::new(
+            "first, second or third event worth nothing; the fourth earns",
+            &[1, 2, 3].map(|nth| (WorthNothingCounts, Is(nth))),
+        ),
+    ]
 }
 
 /// The smallest journal of a run for each wish.

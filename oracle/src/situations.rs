@@ -52,6 +52,28 @@ pub enum Situation {
     UnknownKindFollowed,
     DeviceDone,
     DeviceRefused,
+    /// By which of its device's events it is. It is worth something.
+    NewDeviceEarnsNothing,
+    /// By the bits that the difference with a clock of zero is worth.
+    FirstClockEarnsNothing,
+    /// By which of its device's events it is.
+    KnownDeviceEarns,
+    /// By the device: its third event, worth something, earned nothing.
+    EarnsFromTheFourthOn,
+    /// By how many of device 0's events had come before the repeated one. The
+    /// third, worth something, earns nothing all the same.
+    RepeatedDoesNotCount,
+    /// The same, after a number over 15 was refused that has its low four bits
+    /// in common with the device.
+    RefusedDoesNotCount,
+    /// By which of the first three is worth nothing. The fourth earns.
+    WorthNothingCounts,
+    /// Up to the fourth event of each.
+    TwoDevicesInTurn,
+    /// By which of its device's events it is; so is the next. What it is worth
+    /// would have seeded the keeper.
+    NewDeviceDoesNotSeed,
+    KnownDeviceSeeds,
     /// By the length; so are the next two.
     HeaderRight,
     HeaderLetters,
@@ -90,6 +112,16 @@ impl Situation {
             UnknownKindFollowed,
             DeviceDone,
             DeviceRefused,
+            NewDeviceEarnsNothing,
+            FirstClockEarnsNothing,
+            KnownDeviceEarns,
+            EarnsFromTheFourthOn,
+            RepeatedDoesNotCount,
+            RefusedDoesNotCount,
+            WorthNothingCounts,
+            TwoDevicesInTurn,
+            NewDeviceDoesNotSeed,
+            KnownDeviceSeeds,
             HeaderRight,
             HeaderLetters,
             HeaderVersion,
@@ -111,8 +143,12 @@ impl Situation {
             UnknownKindAlone | UnknownKindFollowed => {
                 (0..=255).filter(|kind| !(1..=6).contains(kind)).collect()
             }
-            DeviceDone => (0..=15).collect(),
+            DeviceDone | EarnsFromTheFourthOn => (0..=15).collect(),
             DeviceRefused => (16..=255).collect(),
+            NewDeviceEarnsNothing | WorthNothingCounts | NewDeviceDoesNotSeed => (1..=3).collect(),
+            FirstClockEarnsNothing => (1..=11).collect(),
+            KnownDeviceEarns | KnownDeviceSeeds => vec![4, 5],
+            RepeatedDoesNotCount => (0..=2).collect(),
             HeaderRight => (0..=53).collect(),
             HeaderLetters => (1..=53).collect(),
             HeaderVersion => (4..=53).collect(),
@@ -163,6 +199,16 @@ impl fmt::Display for Situation {
             UnknownKindFollowed => "unknown kinds, with bytes after them",
             DeviceDone => "devices done",
             DeviceRefused => "devices refused",
+            NewDeviceEarnsNothing => "events 1 to 3 of a device, worth something, earn nothing",
+            FirstClockEarnsNothing => "event 1 at a clock worth 1 to 11 bits earns nothing",
+            KnownDeviceEarns => "events 4 and 5 of a device earn",
+            EarnsFromTheFourthOn => "event 3 earns nothing and event 4 earns, of each device",
+            RepeatedDoesNotCount => "event 3 earns nothing, after a repeated one behind 0 to 2",
+            RefusedDoesNotCount => "event 3 earns nothing, after a like number was refused",
+            WorthNothingCounts => "event 4 earns, after event 1, 2 or 3 was worth nothing",
+            TwoDevicesInTurn => "two new devices in turn, up to event 4 of each",
+            NewDeviceDoesNotSeed => "events 1 to 3 of a device, worth enough to seed, do not",
+            KnownDeviceSeeds => "events 4 and 5 of a device do the first seeding",
             HeaderRight => "header right so far, of each length",
             HeaderLetters => "header with wrong letters, of each length",
             HeaderVersion => "header with a wrong version, of each length",

@@ -1,11 +1,15 @@
 //! Reads off a journal, and off what its replay does, which situations it
 //! shows, whatever its maker had in mind.
 
+mod new_devices;
+
 use std::collections::BTreeMap;
+
+use self::new_devices::NewDevices;
 
 use crate::credits::clock_difference;
 use crate::journal::{Record, HEADER, MARK, UNKNOWN_KIND, VERSION};
-use crate::keeper::{Keeper, DONE, NO_DEVICE};
+use crate::keeper::{Keeper, Timer, DEVICES, DONE, NO_DEVICE, REPEATED};
 use crate::situations::{Next, Seeder, Situation, Situation::*, Wait};
 use crate::transcript::{replay, Ending, Step};
 
@@ -46,6 +50,7 @@ struct Fields {
     count: u32,
     tally: u32,
     last_spill: u32,
+    timers: [Timer; DEVICES],
 }
 
 impl Fields {
@@ -56,6 +61,7 @@ impl Fields {
             count: keeper.input.count,
             tally: keeper.tally,
             last_spill: keeper.last_spill,
+            timers: keeper.timers,
         }
     }
 }
@@ -80,6 +86,7 @@ struct Watch {
     nothing_credited: bool,
     /// The last spill, where it was one by time.
     timed: Option<TimedSpill>,
+    new_devices: NewDevices,
 }
 
 /// Whether a clock went through zero on its way over so many ticks.
@@ -93,9 +100,13 @@ impl Watch {
         self.shown.see(Answer(step.answer.number), 0);
         self.shown.see(KindWhole, u32::from(step.record.kind()));
         match step.record {
-            Record::Device { device, .. } => match step.answer.number {
-                DONE => self.shown.see(DeviceDone, u32::from(*device)),
-                NO_DEVICE => self.shown.see(DeviceRefused, u32::from(*device)),
+            Record::Device { now, device, .. } => match step.answer.number {
+                DONE => self.event(*device, *now, &after),
+                NO_DEVICE => {
+                    self.shown.see(DeviceRefused, u32::from(*device));
+                    self.new_devices.refused(*device);
+                }
+                REPEATED => self.new_devices.repeated(),
                 _ => {}
             },
             Record::Interrupt { now, .. } => self.interrupt(*now, after.tally == 0),
@@ -122,6 +133,16 @@ impl Watch {
             };
         }
         self.before = after;
+    }
+
+    fn event(&mut self, device: u8, now: u32, after: &Fields) {
+        self.shown.see(DeviceDone, u32::from(device));
+        let shown = self
+            .new_devices
+            .kept(usize::from(device), now, &self.before, after);
+        for (situation, value) in shown {
+            self.shown.see(situation, value);
+        }
     }
 
     fn generator_read(&mut self, now: u32, reseeded: bool) {
@@ -302,11 +323,12 @@ mod tests {
     /// The first seeding at `clock`: 170 bits, and then the last that it takes.
     fn seeding(seeder: Seeder, clock: u32) -> Vec<Record<'static>> {
         let last = match seeder {
-            Seeder::Event => event(4, clock),
-            Seeder::Interrupt => interrupt(clock),
-            Seeder::Seed => seed(clock, 1, 1),
+            // The fourth is the first that earns.
+            Seeder::Event => [100, 90, 50, 0].map(|ago| event(4, clock - ago)).to_vec(),
+            Seeder::Interrupt => vec![interrupt(clock)],
+            Seeder::Seed => vec![seed(clock, 1, 1)],
         };
-        vec![seed(0, 170, 22), last]
+        [vec![seed(0, 170, 22)], last].concat()
     }
 
     #[test]

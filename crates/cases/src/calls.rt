@@ -1,4 +1,4 @@
-// P7 to P12 and the event of 60 units: calls on the ledger of a fresh keeper, of which all else is in range.
+// P7 to P12, the event that was worth 60 units, and a new device's first five events: calls on the ledger of a fresh keeper, of which all else is in range.
 use crate::print;
 use ledger::Gauge;
 use ledger::Ledger;
@@ -6,7 +6,6 @@ use ledger::Plan;
 use ledger::Seeding;
 use ledger::Spill;
 use ledger::Spot;
-use ledger::Timer;
 
 fn fresh() -> Ledger {
     Ledger {
@@ -52,16 +51,27 @@ fn reads(p: Plan) {
     read(b"P12 a read of 97:", l, 97);
 }
 
-fn event() {
-    let t = Timer {
-        clock: 0,
-        d1: 0,
-        d2: 0,
-    };
-    print::plan(
-        b"fresh, device 1, now 1024:",
-        decide::decide_event(true, fresh(), t, 1, 1024, 0),
-    );
+// An event of device 1 on top of what a plan left, and the plan for it.
+fn event(text: &[u8], before: Plan, now: u32) -> Plan {
+    let l = before.ledger;
+    let t = before.timer;
+    let p = decide::decide_event(true, l, t, 1, now, 0);
+    print::plan(text, p);
+    p
+}
+
+// What is planned on a fresh keeper for a write of nothing: a fresh ledger, and a fresh timer beside it.
+fn untouched() -> Plan {
+    decide::decide_write(true, fresh(), 0)
+}
+
+// The first three events of a device earn nothing, whatever their estimates.
+fn new_device() {
+    let first = event(b"fresh, device 1, now 1024:", untouched(), 1024);
+    let second = event(b"its second event, now 3000:", first, 3000);
+    let third = event(b"its third event, now 7000:", second, 7000);
+    let fourth = event(b"its fourth event, now 15000:", third, 15000);
+    event(b"its fifth event, now 31000:", fourth, 31000);
 }
 
 pub fn run() {
@@ -72,5 +82,5 @@ pub fn run() {
     print::plan(b"P10 credit 4096:", much);
     blocking(much);
     reads(seeded(256));
-    event();
+    new_device();
 }

@@ -1,13 +1,15 @@
 // P1 to P6: the estimate, clock differences, crediting.
 use crate::print;
 use ledger::Timer;
+use ledger::sizes::EVENTS_BEFORE;
 
-// On a fresh timer an event at clock m has three differences of m.
+// Of a device of which three events came, an event at clock m has three differences of m where the timer is else fresh.
 fn estimate(m: u32) {
     let t = Timer {
         clock: 0,
         d1: 0,
         d2: 0,
+        came: EVENTS_BEFORE,
     };
     print::number(reckon::event_bits(m, t) as u64);
 }

@@ -43,6 +43,7 @@ fn fresh_timer() -> Timer
         clock: 0,
         d1: 0,
         d2: 0,
+        came: 0,
     }
 }
 

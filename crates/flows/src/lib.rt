@@ -7,7 +7,7 @@ ghost use mathlib.Core.List.{[], _++_};
 ghost use Prim.Native.Nat.{_≤_};
 ghost use lib.ListN.{length, drop};
 ghost use Rattle.words.specs.Bytes.{wordsBytes};
-ghost use Rattle.ledger.specs.Sizes.{generatorWords};
+ghost use Rattle.ledger.specs.Sizes.{inputWords, generatorWords};
 ghost use Rattle.ledger.specs.Choice.{pick};
 ghost use Rattle.pool.specs.Mixing.{mix};
 ghost use Rattle.pool.specs.Extracting.{extract};
@@ -32,6 +32,7 @@ pub fn feed(ws: &mut [u32], s: Spot, bytes: &[u8]) -> Spot
 // An event's stamp, clock and value go into a pool.
 pub fn feed_event(ws: &mut [u32], s: Spot, stamp: u64, at: u32, value: u32) -> Spot
     requires { ⌜ InPool (length (now ws)) s ⌝ }
+    requires { ⌜ length (now ws) ≡ inputWords ⌝ }
     ensures { λ r. ⌜ (record { words = now (ws .exit); spot = r }) ≡ mix (shapeOf (length (now (ws .entry)))) (record { words = now (ws .entry); spot = s }) (eventBytes stamp at value) ⌝ }
     ensures { λ r. ⌜ InPool (length (now (ws .entry))) r ⌝ }
 {
@@ -47,6 +48,7 @@ pub fn feed_event(ws: &mut [u32], s: Spot, stamp: u64, at: u32, value: u32) -> S
 // The fast pool's words go into a pool, if they spill.
 pub fn spill(ws: &mut [u32], s: Spot, f: &[u32], spills: bool) -> Spot
     requires { ⌜ InPool (length (now ws)) s ⌝ }
+    requires { ⌜ length (now ws) ≡ inputWords ⌝ }
     ensures { λ r. ⌜ (record { words = now (ws .exit); spot = r }) ≡ mix (shapeOf (length (now (ws .entry)))) (record { words = now (ws .entry); spot = s }) (pick spills (wordsBytes (now (f .entry))) []) ⌝ }
     ensures { λ r. ⌜ InPool (length (now (ws .entry))) r ⌝ }
 {

@@ -9,3 +9,4 @@ pub mod StaysInRange
 pub mod Blocks
 pub mod Work
 pub mod KeyChange
+pub mod NewDevices

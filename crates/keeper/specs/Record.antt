@@ -19,7 +19,7 @@ use Rattle.keeper.specs.declared.Keeper.{Keeper}
 
 -- ---- parts of the record
 abbrev pub timersIn : Keeper → Timers
-timersIn k = record { clocks = k .clocks; firsts = k .firsts; seconds = k .seconds }
+timersIn k = record { clocks = k .clocks; firsts = k .firsts; seconds = k .seconds; came = k .came }
 
 abbrev pub deviceTimer : Keeper → ℕ → Timer
 deviceTimer k = timerOf (timersIn k)
@@ -33,7 +33,7 @@ blockingPool k = record { words = k .blocking; spot = k .ledger .blocking .spot 
 -- ---- the record out of its parts, and with another part
 abbrev pub keeperOf : Ledger → Timers → List ℕ → List ℕ → List ℕ → List ℕ → Keeper
 keeperOf l ts input blocking fast generator =
-    record { ledger = l; clocks = ts .clocks; firsts = ts .firsts; seconds = ts .seconds; input = input; blocking = blocking; fast = fast; generator = generator }
+    record { ledger = l; clocks = ts .clocks; firsts = ts .firsts; seconds = ts .seconds; came = ts .came; input = input; blocking = blocking; fast = fast; generator = generator }
 
 abbrev pub withLedger : Ledger → Keeper → Keeper
 withLedger l k = keeperOf l (timersIn k) (k .input) (k .blocking) (k .fast) (k .generator)

@@ -11,14 +11,15 @@ use ledger::sizes::FAST_WORDS;
 use ledger::sizes::GENERATOR_WORDS;
 use ledger::sizes::INPUT_WORDS;
 
-// The record. First what is public: the ledger, and one timer a device, its last clock, its d1 and its d2. Then what is secret, but for
-// generator words 0 to 3.
+// The record. First what is public: the ledger, and one timer a device, its last clock, its d1, its d2 and how many of its events were kept,
+// up to three. Then what is secret, but for generator words 0 to 3.
 #[repr(C)]
 pub struct Keeper {
     pub ledger: ledger::Ledger,
     pub clocks: [u32; DEVICES],
     pub firsts: [i64; DEVICES],
     pub seconds: [i64; DEVICES],
+    pub came: [u8; DEVICES],
     pub input: [u32; INPUT_WORDS],
     pub blocking: [u32; BLOCKING_WORDS],
     pub fast: [u32; FAST_WORDS],

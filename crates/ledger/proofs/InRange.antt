@@ -10,13 +10,13 @@ use lib.ListN.{getD, set}
 use lib.IntN.{ℤ, pos, negsuc, subℕ, _-ℤ_}
 use borrow.Author.Tests.{lt-ltb, le-leb, ltb-true, ltb-false, leb-true, eqb-true}
 use Rattle.ledger.specs.Choice.{pick}
-use Rattle.ledger.specs.Sizes.{inputSize, blockingSize}
+use Rattle.ledger.specs.Sizes.{inputSize, blockingSize, eventsBefore}
 use Rattle.ledger.specs.Shapes.{Shape, inputShape, blockingShape}
 use Rattle.ledger.specs.Places.{stepped, moved, movedBlocks, blocksOf, extractedFrom}
-use Rattle.ledger.specs.Clocks.{signed, clockDiff, nextTimer}
+use Rattle.ledger.specs.Clocks.{signed, clockDiff, cameAfter, nextTimer}
 use Rattle.ledger.specs.Timers.{Timers, timerOf, kept}
 use Rattle.ledger.specs.Marks.{counting, valued, tallied, spilled, stays}
-use Rattle.ledger.specs.Range.{View, othersInRange, timerInRange, timersInRange, poolInRange, within, firstInRange, secondInRange, every, fixedWords, sameWords, ledgerInRange, inRange}
+use Rattle.ledger.specs.Range.{View, othersInRange, timerInRange, timersInRange, poolInRange, within, firstInRange, secondInRange, cameInRange, every, fixedWords, sameWords, ledgerInRange, inRange}
 use Rattle.ledger.specs.PublicCalls.{PublicCall, event, interrupt, write, seed, read, blockingRead, brings, deviceOf}
 use Rattle.ledger.specs.Plans.{planOf, idle, feed, transferred, planEvent, planInterrupt, planWrite, planSeed, planRead, planBlockingRead, planCall, decide}
 use Rattle.ledger.specs.Machine.{freshView, inputMoved, blockingMoved, planned, planAt, stepView}
@@ -184,24 +184,40 @@ pub next-in-range : (now : ℕ) (t : Timer) → timerInRange t ≡ true → time
 next-in-range now t h =
     let d = clockDiff now (t .clock) in
     let w = diff-within now (t .clock) in
-    both (firstInRange d) (secondInRange (d -ℤ t .d1)) w (second-within d (t .d1) w (and-left (firstInRange (t .d1)) (secondInRange (t .d2)) h))
+    let f = firstInRange (t .d1) in
+    let s = secondInRange (t .d2) in
+    let g = second-within d (t .d1) w (and-left f s (and-left (f && s) (cameInRange (t .came)) h)) in
+    both (firstInRange d && secondInRange (d -ℤ t .d1)) (cameInRange (cameAfter (t .came)))
+    (both (firstInRange d) (secondInRange (d -ℤ t .d1)) w g) (le-leb (cameAfter (t .came)) eventsBefore (omega arith))
 
 -- a device's
 timer-in-range : (ts : Timers) (device : ℕ) → timersInRange ts ≡ true → timerInRange (timerOf ts device) ≡ true
 timer-in-range ts device h =
     let d = every firstInRange (ts .firsts) in
     let e = every secondInRange (ts .seconds) in
+    let n = every cameInRange (ts .came) in
     let u = timerOf ts device in
-    both (firstInRange (u .d1)) (secondInRange (u .d2)) (every-at firstInRange (ts .firsts) device (pos 0) (and-left d e h) refl) (every-at secondInRange (ts .seconds) device (pos 0) (and-right d e h) refl)
+    let g = and-left (d && e) n h in
+    both (firstInRange (u .d1) && secondInRange (u .d2)) (cameInRange (u .came))
+    (both (firstInRange (u .d1)) (secondInRange (u .d2)) (every-at firstInRange (ts .firsts) device (pos 0) (and-left d e g) refl) (every-at secondInRange (ts .seconds) device (pos 0) (and-right d e g) refl))
+    (every-at cameInRange (ts .came) device 0 (and-right (d && e) n h) refl)
 
 -- all, after one was kept
 kept-in-range : (ts : Timers) (device : ℕ) (t : Timer) → timersInRange ts ≡ true → timerInRange t ≡ true → timersInRange (kept device t ts) ≡ true
 kept-in-range ts device t h k =
     let d = every firstInRange (ts .firsts) in
     let e = every secondInRange (ts .seconds) in
+    let n = every cameInRange (ts .came) in
     let a = firstInRange (t .d1) in
     let b = secondInRange (t .d2) in
-    both (every firstInRange (set (ts .firsts) device (t .d1))) (every secondInRange (set (ts .seconds) device (t .d2))) (every-set firstInRange (ts .firsts) device (t .d1) (and-left d e h) (and-left a b k)) (every-set secondInRange (ts .seconds) device (t .d2) (and-right d e h) (and-right a b k))
+    let m = cameInRange (t .came) in
+    let g = and-left (d && e) n h in
+    let j = and-left (a && b) m k in
+    let firsts = every firstInRange (set (ts .firsts) device (t .d1)) in
+    let seconds = every secondInRange (set (ts .seconds) device (t .d2)) in
+    both (firsts && seconds) (every cameInRange (set (ts .came) device (t .came)))
+    (both firsts seconds (every-set firstInRange (ts .firsts) device (t .d1) (and-left d e g) (and-left a b j)) (every-set secondInRange (ts .seconds) device (t .d2) (and-right d e g) (and-right a b j)))
+    (every-set cameInRange (ts .came) device (t .came) (and-right (d && e) n h) (and-right (a && b) m k))
 
 -- ---- plans
 -- another count within its size

@@ -5,4 +5,6 @@ pub mod InRange
 pub mod Blocking
 pub mod Still
 pub mod Marked
+pub mod KeptTimers
+pub mod NewDevices
 pub mod SmallPlans

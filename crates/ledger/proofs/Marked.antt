@@ -11,12 +11,13 @@ use Rattle.ledger.specs.Places.{moved, movedBlocks, extractedFrom, costs
 use Rattle.ledger.specs.Credits.{turnTakes, turnAdds, further, credited, taken}
 use Rattle.ledger.specs.Clocks.{signed, clockDiff, log2, estimate, eventBits}
 use Rattle.ledger.specs.Marks.{withSeeding, isSeeded, freshLedger}
-use Rattle.ledger.specs.Timers.{freshTimers, kept}
+use Rattle.ledger.specs.Timers.{freshTimers, timerOf, kept}
 use Rattle.ledger.specs.Range.{View, fixedWords, ledgerInRange, othersInRange}
 use Rattle.ledger.specs.PublicCalls.{PublicCall, event, interrupt, write, seed, read, blockingRead}
 use Rattle.ledger.specs.Plans.{firstSeeding, feed, planEvent, planInterrupt, planWrite, planSeed, planRead, planBlockingRead, planCall, decide}
 use Rattle.ledger.specs.Machine.{Shown, freshView, inputMoved, blockingMoved, planned, planAt, stepView}
 use Rattle.ledger.specs.declared.Spot.{Spot}
+use Rattle.ledger.specs.declared.Timer.{Timer}
 use Rattle.ledger.proofs.InRange.{viewAfter}
 
 -- ---- how a row is written
@@ -68,13 +69,17 @@ abbrev pub but : ℕ → ℕ → Spot → Spot → ℕ → ℤ → ℤ → List 
 but i b si sb n d1 d2 words =
     record {
       ledger = record { input = record { count = i; spot = si }; blocking = record { count = b; spot = sb }; value = 0; spill = record { tally = n; clock = 0 }; seeding = freshLedger .seeding };
-      timers = kept 15 (record { clock = 0; d1 = d1; d2 = d2 }) freshTimers;
+      timers = kept 15 (record { clock = 0; d1 = d1; d2 = d2; came = 0 }) freshTimers;
       fixed = words;
     }
 
 -- a view that is fresh but for its counts
 abbrev pub counts : ℕ → ℕ → View
 counts i b = but i b (spot 0 0) (spot 0 0) 0 (pos 0) (pos 0) fixedWords
+
+-- a view of which so many kept events of a device came, whose timer is else fresh
+abbrev pub came : ℕ → ℕ → View → View
+came n device v = record { ledger = v .ledger; timers = kept device (record { clock = 0; d1 = pos 0; d2 = pos 0; came = n }) (v .timers); fixed = v .fixed }
 
 -- a view that is fresh but for its seeded mark
 abbrev pub seededMark : ℕ → View
@@ -85,6 +90,10 @@ abbrev pub spotsAfter : View → List PublicCall → List ℕ
 spotsAfter v cs =
     let l = (viewAfter v cs) .ledger in
     l .input .spot .at ∷ l .input .spot .turn ∷ l .blocking .spot .at ∷ l .blocking .spot .turn ∷ []
+
+-- what a device's timer holds after calls made one after the other from a fresh start
+abbrev pub timerAfter : ℕ → List PublicCall → Timer
+timerAfter device cs = timerOf ((viewAfter freshView cs) .timers) device
 
 -- ---- the table
 abbrev pub table : List (Side × Side)
@@ -113,12 +122,31 @@ table =
     ∷ (fresh (bits 256 ∷ read 0 32 ∷ read 0 33 ∷ read 0 64 ∷ read 0 65 ∷ read 0 97 ∷ []), lines ((0, 0, 0, 0, 0, 24, true) ∷ (0, 32, 0, 0, 1, 0, true) ∷ (0, 33, 0, 0, 2, 0, true) ∷ (0, 64, 0, 0, 2, 0, true) ∷ (0, 65, 0, 0, 2, 0, true) ∷ (0, 97, 0, 0, 3, 0, true) ∷ []))
     -- the shortest and the longest generator read, one whose used bytes are rounded up to 32, and two that use just 32 of the last block
     ∷ (fresh (bits 256 ∷ read 0 1 ∷ read 0 4096 ∷ read 0 93 ∷ read 0 96 ∷ read 0 160 ∷ []), lines ((0, 0, 0, 0, 0, 24, true) ∷ (0, 1, 0, 0, 1, 0, true) ∷ (0, 4096, 0, 0, 65, 0, true) ∷ (0, 93, 0, 0, 2, 0, true) ∷ (0, 96, 0, 0, 2, 0, true) ∷ (0, 160, 0, 0, 3, 0, true) ∷ []))
-    -- an event of device 1 on a fresh keeper at 1,500: 10 bits; then its clock runs back, and then it does not move
-    ∷ (fresh (event 1 1500 0 ∷ event 1 0 0 ∷ event 1 0 0 ∷ []), lines ((0, 0, 60, 0, 0, 0, false) ∷ (0, 0, 119, 0, 0, 0, false) ∷ (0, 0, 119, 0, 0, 0, false) ∷ []))
+    -- a new device earns nothing: the event of 60 units on a fresh keeper
+    ∷ (fresh (event 1 1024 0 ∷ []), lines ((0, 0, 0, 0, 0, 0, false) ∷ []))
+    -- first to fifth event of a device, each with an estimate above 0: the fourth is the first that earns, by the clocks of all four
+    ∷ (fresh (event 1 1024 0 ∷ event 1 3000 0 ∷ event 1 7000 0 ∷ event 1 15000 0 ∷ event 1 31000 0 ∷ []), lines ((0, 0, 0, 0, 0, 0, false) ∷ (0, 0, 0, 0, 0, 0, false) ∷ (0, 0, 0, 0, 0, 0, false) ∷ (0, 0, 60, 0, 0, 0, false) ∷ (0, 0, 125, 0, 0, 0, false) ∷ []))
+    -- the same on device 0, with an event answered 7 in between, which does not count
+    ∷ (fresh (event 0 1024 1 ∷ event 0 2000 1 ∷ event 0 3000 2 ∷ event 0 7000 3 ∷ event 0 15000 4 ∷ event 0 31000 5 ∷ []), lines ((0, 0, 0, 0, 0, 0, false) ∷ (7, 0, 0, 0, 0, 0, false) ∷ (0, 0, 0, 0, 0, 0, false) ∷ (0, 0, 0, 0, 0, 0, false) ∷ (0, 0, 60, 0, 0, 0, false) ∷ (0, 0, 125, 0, 0, 0, false) ∷ []))
+    -- two devices in turn: each has a count of its own
+    ∷ (fresh (event 1 1024 0 ∷ event 2 1024 0 ∷ event 1 3000 0 ∷ event 2 3000 0 ∷ event 1 7000 0 ∷ event 2 7000 0 ∷ event 1 15000 0 ∷ event 2 15000 0 ∷ []), lines ((0, 0, 0, 0, 0, 0, false) ∷ (0, 0, 0, 0, 0, 0, false) ∷ (0, 0, 0, 0, 0, 0, false) ∷ (0, 0, 0, 0, 0, 0, false) ∷ (0, 0, 0, 0, 0, 0, false) ∷ (0, 0, 0, 0, 0, 0, false) ∷ (0, 0, 60, 0, 0, 0, false) ∷ (0, 0, 119, 0, 0, 0, false) ∷ []))
+    -- clock, d1 and d2 are kept from the first event on
+    ∷ (numbers ((timerAfter 1 (event 1 1024 0 ∷ [])) .clock ∷ (timerAfter 1 (event 1 1024 0 ∷ event 1 3000 0 ∷ [])) .clock ∷ []), numbers (1024 ∷ 3000 ∷ []))
+    ∷ (differences ((timerAfter 1 (event 1 1024 0 ∷ [])) .d1 ∷ (timerAfter 1 (event 1 1024 0 ∷ [])) .d2 ∷ []), differences (pos 1024 ∷ pos 1024 ∷ []))
+    ∷ (differences ((timerAfter 1 (event 1 1024 0 ∷ event 1 3000 0 ∷ [])) .d1 ∷ (timerAfter 1 (event 1 1024 0 ∷ event 1 3000 0 ∷ [])) .d2 ∷ []), differences (pos 1976 ∷ pos 952 ∷ []))
+    -- what is counted: nothing at first, kept events up to three, of each device by itself, and none that is answered 4, 7 or 17
+    ∷ (numbers ((viewAfter freshView []) .timers .came), numbers (replicate 16 0))
+    ∷ (numbers ((viewAfter freshView (event 0 0 0 ∷ event 16 0 0 ∷ interrupt 0 0 ∷ bits 8 ∷ event 0 0 1 ∷ event 0 0 1 ∷ event 3 0 0 ∷ event 3 0 0 ∷ event 15 0 0 ∷ event 15 0 0 ∷ event 15 0 0 ∷ event 15 0 0 ∷ [])) .timers .came), numbers (1 ∷ 0 ∷ 0 ∷ 2 ∷ 0 ∷ 0 ∷ 0 ∷ 0 ∷ 0 ∷ 0 ∷ 0 ∷ 0 ∷ 0 ∷ 0 ∷ 0 ∷ 3 ∷ []))
+    ∷ (numbers ((viewAfter (counts 32769 0) (event 3 0 0 ∷ [])) .timers .came), numbers (replicate 16 0))
+    -- two that came are too few, three are enough
+    ∷ (from (came 2 1 freshView) (event 1 1024 0 ∷ []), lines ((0, 0, 0, 0, 0, 0, false) ∷ []))
+    ∷ (from (came 3 1 freshView) (event 1 1024 0 ∷ []), lines ((0, 0, 60, 0, 0, 0, false) ∷ []))
+    -- an event of device 1, of which three came, at 1,500: 10 bits; then its clock runs back, and then it does not move
+    ∷ (from (came 3 1 freshView) (event 1 1500 0 ∷ event 1 0 0 ∷ event 1 0 0 ∷ []), lines ((0, 0, 60, 0, 0, 0, false) ∷ (0, 0, 119, 0, 0, 0, false) ∷ (0, 0, 119, 0, 0, 0, false) ∷ []))
     -- the least of the three amounts counts: all are 1,000, then d2 is 0, then d2 and d3 are 1,000
-    ∷ (fresh (event 2 1000 0 ∷ event 2 2000 0 ∷ event 2 4000 0 ∷ []), lines ((0, 0, 54, 0, 0, 0, false) ∷ (0, 0, 54, 0, 0, 0, false) ∷ (0, 0, 107, 0, 0, 0, false) ∷ []))
+    ∷ (from (came 3 2 freshView) (event 2 1000 0 ∷ event 2 2000 0 ∷ event 2 4000 0 ∷ []), lines ((0, 0, 54, 0, 0, 0, false) ∷ (0, 0, 54, 0, 0, 0, false) ∷ (0, 0, 107, 0, 0, 0, false) ∷ []))
     -- amounts at the ends of the range: d1 at its least twice, so that d2 is then 0, and d1 at its most, with d2 at its most
-    ∷ (fresh (event 2 0x80000000 0 ∷ event 2 0 0 ∷ event 2 0x7FFFFFFF 0 ∷ []), lines ((0, 0, 66, 0, 0, 0, false) ∷ (0, 0, 66, 0, 0, 0, false) ∷ (0, 0, 131, 0, 0, 0, false) ∷ []))
+    ∷ (from (came 3 2 freshView) (event 2 0x80000000 0 ∷ event 2 0 0 ∷ event 2 0x7FFFFFFF 0 ∷ []), lines ((0, 0, 66, 0, 0, 0, false) ∷ (0, 0, 66, 0, 0, 0, false) ∷ (0, 0, 131, 0, 0, 0, false) ∷ []))
     -- a reseed is due past 300,000 ticks and not at them, nor where the clock ran back; they count from the last reseed
     ∷ (fresh (bits 4096 ∷ read 300000 1 ∷ read 300001 1 ∷ read 300000 1 ∷ read 0 1 ∷ read 600001 1 ∷ read 600002 1 ∷ []), lines ((0, 0, 17920, 0, 0, 32, true) ∷ (0, 1, 17920, 0, 1, 0, true) ∷ (0, 1, 15872, 0, 1, 32, true) ∷ (0, 1, 15872, 0, 1, 0, true) ∷ (0, 1, 15872, 0, 1, 0, true) ∷ (0, 1, 15872, 0, 1, 0, true) ∷ (0, 1, 13824, 0, 1, 32, true) ∷ []))
     -- half the clock's range ahead reads as a clock that ran back; one less is the longest wait
@@ -139,12 +167,12 @@ table =
     ∷ (fresh (bits 168 ∷ bits 1 ∷ bits 1 ∷ bits 1 ∷ bits 1 ∷ []), lines ((0, 0, 1008, 0, 0, 0, false) ∷ (0, 0, 1013, 0, 0, 0, false) ∷ (0, 0, 1018, 0, 0, 0, false) ∷ (0, 0, 1023, 0, 0, 0, false) ∷ (0, 0, 4, 0, 0, 16, true) ∷ []))
     -- it comes after an event's and an interrupt's credit too
     ∷ (from (counts 1019 0) (interrupt 1001 7 ∷ []), lines ((0, 0, 0, 0, 0, 16, true) ∷ []))
-    ∷ (from (counts 1019 0) (event 3 2 0 ∷ []), lines ((0, 0, 0, 0, 0, 16, true) ∷ []))
+    ∷ (from (came 3 3 (counts 1019 0)) (event 3 2 0 ∷ []), lines ((0, 0, 0, 0, 0, 16, true) ∷ []))
     -- .. and its clock is that call's: after each, with credit enough, a reseed is due past 300,000 ticks and not at them
     ∷ (from (counts 1019 0) (interrupt 1001 7 ∷ bits 4096 ∷ read 301001 1 ∷ read 301002 1 ∷ []), lines ((0, 0, 0, 0, 0, 16, true) ∷ (0, 0, 19968, 0, 0, 0, true) ∷ (0, 1, 19968, 0, 1, 0, true) ∷ (0, 1, 17920, 0, 1, 32, true) ∷ []))
-    ∷ (from (counts 1019 0) (event 3 2 0 ∷ bits 4096 ∷ read 300002 1 ∷ read 300003 1 ∷ []), lines ((0, 0, 0, 0, 0, 16, true) ∷ (0, 0, 19968, 0, 0, 0, true) ∷ (0, 1, 19968, 0, 1, 0, true) ∷ (0, 1, 17920, 0, 1, 32, true) ∷ []))
+    ∷ (from (came 3 3 (counts 1019 0)) (event 3 2 0 ∷ bits 4096 ∷ read 300002 1 ∷ read 300003 1 ∷ []), lines ((0, 0, 0, 0, 0, 16, true) ∷ (0, 0, 19968, 0, 0, 0, true) ∷ (0, 1, 19968, 0, 1, 0, true) ∷ (0, 1, 17920, 0, 1, 32, true) ∷ []))
     -- an unseeded count above 1,024 waits for a credit above 0: a write, a seed of 0 bits, a credit of 1
-    ∷ (from (counts 2000 0) (write 64 ∷ bits 0 ∷ event 3 1 0 ∷ bits 1 ∷ []), lines ((0, 0, 2000, 0, 0, 0, false) ∷ (0, 0, 2000, 0, 0, 0, false) ∷ (0, 0, 2000, 0, 0, 0, false) ∷ (0, 0, 21, 0, 0, 32, true) ∷ []))
+    ∷ (from (came 3 3 (counts 2000 0)) (write 64 ∷ bits 0 ∷ event 3 1 0 ∷ bits 1 ∷ []), lines ((0, 0, 2000, 0, 0, 0, false) ∷ (0, 0, 2000, 0, 0, 0, false) ∷ (0, 0, 2000, 0, 0, 0, false) ∷ (0, 0, 21, 0, 0, 32, true) ∷ []))
     -- blocking reads at the thresholds: 63 and 511 are refused; 512 of input or 64 of blocking give a byte or more
     ∷ (from (counts 511 63) (blockingRead 1 ∷ []), lines ((1, 0, 511, 63, 0, 0, false) ∷ []))
     ∷ (from (counts 512 0) (blockingRead 1 ∷ []), lines ((0, 1, 0, 320, 0, 10, false) ∷ []))
@@ -182,6 +210,9 @@ table =
     ∷ (atEach (but 32768 8192 (spot 127 31) (spot 31 31) 63 (pos 2147483647) (pos 4294967295) fixedWords ∷ but 32768 8192 (spot 127 31) (spot 31 31) 63 (negsuc 2147483647) (negsuc 4294967294) fixedWords ∷ []) (read 0 0), numbers (0 ∷ 0 ∷ []))
     -- out of range, one thing at a time: a count, a position, a rotation, the tally
     ∷ (atEach (counts 32769 0 ∷ counts 0 8193 ∷ but 0 0 (spot 128 0) (spot 0 0) 0 (pos 0) (pos 0) fixedWords ∷ but 0 0 (spot 0 0) (spot 32 0) 0 (pos 0) (pos 0) fixedWords ∷ but 0 0 (spot 0 32) (spot 0 0) 0 (pos 0) (pos 0) fixedWords ∷ but 0 0 (spot 0 0) (spot 0 32) 0 (pos 0) (pos 0) fixedWords ∷ but 0 0 (spot 0 0) (spot 0 0) 64 (pos 0) (pos 0) fixedWords ∷ []) (read 0 0), numbers (17 ∷ 17 ∷ 17 ∷ 17 ∷ 17 ∷ 17 ∷ 17 ∷ []))
+    -- three events that came are in range, on the first device and on the last, and four are not, nor are more
+    ∷ (atEach (came 3 0 freshView ∷ came 3 15 freshView ∷ came 4 0 freshView ∷ came 4 15 freshView ∷ came 255 7 freshView ∷ []) (read 0 0), numbers (0 ∷ 0 ∷ 17 ∷ 17 ∷ 17 ∷ []))
+    ∷ (each (came 4 15 freshView) (event 15 0 0 ∷ event 1 0 0 ∷ interrupt 0 0 ∷ write 0 ∷ seed 0 0 0 ∷ read 0 0 ∷ blockingRead 0 ∷ []), numbers (17 ∷ 17 ∷ 17 ∷ 17 ∷ 17 ∷ 17 ∷ 17 ∷ []))
     -- d1 and d2 past each end, a fixed word
     ∷ (atEach (but 0 0 (spot 0 0) (spot 0 0) 0 (pos 2147483648) (pos 0) fixedWords ∷ but 0 0 (spot 0 0) (spot 0 0) 0 (negsuc 2147483648) (pos 0) fixedWords ∷ but 0 0 (spot 0 0) (spot 0 0) 0 (pos 0) (pos 4294967296) fixedWords ∷ but 0 0 (spot 0 0) (spot 0 0) 0 (pos 0) (negsuc 4294967295) fixedWords ∷ but 0 0 (spot 0 0) (spot 0 0) 0 (pos 0) (pos 0) (set fixedWords 3 0) ∷ []) (read 0 0), numbers (17 ∷ 17 ∷ 17 ∷ 17 ∷ 17 ∷ []))
     ∷ []

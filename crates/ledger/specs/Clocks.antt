@@ -4,6 +4,7 @@ use Prim.Native.Nat.{ℕ, zero, suc, _+_, _-_, _/_, _%_, _^_, min}
 use lib.Dec.{ltb, eqb}
 use lib.IntN.{ℤ, pos, negsuc, subℕ, _-ℤ_, natAbs}
 use Rattle.ledger.specs.Choice.{pick}
+use Rattle.ledger.specs.Sizes.{eventsBefore}
 use Rattle.ledger.specs.declared.Timer.{Timer}
 
 -- a number of 32 bits read as signed, -2^31 to 2^31 - 1
@@ -19,11 +20,15 @@ abbrev pub exceeds : ℤ → ℕ → Bool
 exceeds (pos x) n = ltb n x
 exceeds (negsuc x) n = false
 
--- what is kept of an event: its clock, the first difference, and the second, which is exact
+-- one more kept event of a device came; they are counted up to three
+abbrev pub cameAfter : ℕ → ℕ
+cameAfter n = min eventsBefore (n + 1)
+
+-- what is kept of an event: its clock, the first difference, the second, which is exact, and that it came
 abbrev pub nextTimer : ℕ → Timer → Timer
 nextTimer now t =
     let d = clockDiff now (t .clock) in
-    record { clock = now; d1 = d; d2 = d -ℤ t .d1 }
+    record { clock = now; d1 = d; d2 = d -ℤ t .d1; came = cameAfter (t .came) }
 
 -- the third difference, exact too
 abbrev pub third : ℕ → Timer → ℤ
@@ -42,6 +47,10 @@ log2 (suc f) m = let r = log2 f (m / 2) in pick (ltb m 2) 0 (suc r)
 unfoldable pub estimate : ℕ → ℕ
 estimate m = pick (eqb m 0) 0 (min 11 (log2 64 m))
 
--- the bits that an event of a device earns
+-- the estimate of an event
+abbrev pub estimated : ℕ → Timer → ℕ
+estimated now t = estimate (leastAmount now t)
+
+-- the bits that an event of a device earns: its estimate, if three kept events of that device came before it, else 0
 unfoldable pub eventBits : ℕ → Timer → ℕ
-eventBits now t = estimate (leastAmount now t)
+eventBits now t = pick (eqb (t .came) eventsBefore) (estimated now t) 0

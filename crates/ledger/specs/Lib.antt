@@ -12,3 +12,4 @@ pub mod PublicCalls
 pub mod Streams
 pub mod Plans
 pub mod Machine
+pub mod Earned

@@ -4,6 +4,7 @@ use mathlib.Core.List.{List, [], _∷_}
 use Prim.Native.Nat.{ℕ, _-_, _^_}
 use lib.Dec.{ltb, leb, eqb}
 use lib.IntN.{ℤ, pos, negsuc}
+use Rattle.ledger.specs.Sizes.{eventsBefore}
 use Rattle.ledger.specs.Shapes.{Shape, inputShape, blockingShape}
 use Rattle.ledger.specs.Timers.{Timers}
 use Rattle.ledger.specs.declared.Gauge.{Gauge}
@@ -33,6 +34,10 @@ firstInRange = within (2 ^ 31) (2 ^ 31 - 1)
 abbrev pub secondInRange : ℤ → Bool
 secondInRange = within (2 ^ 32 - 1) (2 ^ 32 - 1)
 
+-- no more than three events counted
+abbrev pub cameInRange : ℕ → Bool
+cameInRange n = leb n eventsBefore
+
 -- a test of every number of a list
 abbrev pub every : {A : Type 0} → (A → Bool) → List A → Bool
 every f [] = true
@@ -54,10 +59,10 @@ ledgerInRange l = poolInRange inputShape (l .input) && (poolInRange blockingShap
 
 -- a timer's part, and that of all timers
 abbrev pub timerInRange : Timer → Bool
-timerInRange t = firstInRange (t .d1) && secondInRange (t .d2)
+timerInRange t = firstInRange (t .d1) && secondInRange (t .d2) && cameInRange (t .came)
 
 abbrev pub timersInRange : Timers → Bool
-timersInRange ts = every firstInRange (ts .firsts) && every secondInRange (ts .seconds)
+timersInRange ts = every firstInRange (ts .firsts) && every secondInRange (ts .seconds) && every cameInRange (ts .came)
 
 -- what the ledger does not hold: all timers, and generator words 0 to 3
 unfoldable pub othersInRange : Timers → List ℕ → Bool

@@ -32,3 +32,7 @@ startBytes = 48
 -- the most bytes of a write, a seed or a read
 abbrev pub longest : ℕ
 longest = 4096
+
+-- kept events of a device that come before one that earns
+abbrev pub eventsBefore : ℕ
+eventsBefore = 3

@@ -49,11 +49,13 @@ pub struct Ledger {
     pub seeding: Seeding,
 }
 
-// A device's timer: its last clock, and the first and second difference of its last event.
+// A device's timer: its last clock, the first and second difference of its last event, and how many of its events were kept so far, up to
+// three.
 pub struct Timer {
     pub clock: u32,
     pub d1: i64,
     pub d2: i64,
+    pub came: u8,
 }
 
 // What a call will do.

@@ -22,3 +22,6 @@ pub const START_BYTES: usize = 48;
 
 // The most bytes of a write, a seed or a read.
 pub const LONGEST: usize = 4096;
+
+// Kept events of a device that come before one that earns.
+pub const EVENTS_BEFORE: u8 = 3;

@@ -31,6 +31,7 @@ pub extern "C" fn nk_make(k: &mut Keeper, start: &[u8]) -> Answer
         &mut k.clocks,
         &mut k.firsts,
         &mut k.seconds,
+        &mut k.came,
         &mut k.input,
         &mut k.blocking,
         &mut k.fast,
@@ -53,6 +54,7 @@ pub extern "C" fn nk_event(k: &mut Keeper, device: u32, at: u32, stamp: u64, val
         &mut k.clocks,
         &mut k.firsts,
         &mut k.seconds,
+        &mut k.came,
         &mut k.input,
         &mut k.generator,
         device,
@@ -81,6 +83,7 @@ pub extern "C" fn nk_interrupt(
         l,
         &k.firsts,
         &k.seconds,
+        &k.came,
         &mut k.input,
         &mut k.fast,
         &mut k.generator,
@@ -100,7 +103,15 @@ pub extern "C" fn nk_write(k: &mut Keeper, bytes: &[u8]) -> Answer
     ensures { λ r. ⌜ left (now (k .exit)) r [] ≡ leaves (now (k .entry)) (written (now (bytes .entry))) [] ⌝ }
 {
     let l = k.ledger;
-    let d = write_on(l, &k.firsts, &k.seconds, &mut k.input, &k.generator, bytes);
+    let d = write_on(
+        l,
+        &k.firsts,
+        &k.seconds,
+        &k.came,
+        &mut k.input,
+        &k.generator,
+        bytes,
+    );
     let n = d.ledger;
     k.ledger = n;
     d.answer
@@ -116,6 +127,7 @@ pub extern "C" fn nk_seed(k: &mut Keeper, at: u32, bytes: &[u8], credit: u32) ->
         l,
         &k.firsts,
         &k.seconds,
+        &k.came,
         &mut k.input,
         &mut k.generator,
         at,
@@ -137,6 +149,7 @@ pub extern "C" fn nk_read(k: &mut Keeper, at: u32, out: &mut [u8]) -> Answer
         l,
         &k.firsts,
         &k.seconds,
+        &k.came,
         &mut k.input,
         &mut k.generator,
         at,
@@ -157,6 +170,7 @@ pub extern "C" fn nk_blocking_read(k: &mut Keeper, out: &mut [u8]) -> Answer
         l,
         &k.firsts,
         &k.seconds,
+        &k.came,
         &mut k.input,
         &mut k.blocking,
         &k.generator,

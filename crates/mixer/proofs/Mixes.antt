@@ -126,6 +126,10 @@ mixed-then start s xs ys all ws vs p q e f g =
 pub taps-on : {start bytes ws : List ℕ} {s : Spot} {p : Place} {t : Taps} → TapsOf (length start) t → Mixed start s bytes ws p → TapsOf (length ws) t
 taps-on ts m = rw (m .as-many) ts
 
+-- those of the input pool are those of a pool of as many words
+pub taps-known : {n : ℕ} {t : Taps} → n ≡ inputWords → TapsOf inputWords t → TapsOf n t
+taps-known e ts = rw e ts
+
 -- the position stays small
 pub at-few : {start bytes ws : List ℕ} {s : Spot} {p : Place} → Mixed start s bytes ws p → p .at < inputWords
 at-few m = omega (arith, m .stands .inside .place, m .stands .inside .size .few)

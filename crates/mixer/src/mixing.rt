@@ -175,13 +175,15 @@ fn spot_of(p: Place) -> Spot
     }
 }
 
-// Words mixed into a pool of 128 or 32 words, each as its four bytes, the first first.
+// Words mixed into the input pool, each as its four bytes, the first first. Events and spills go nowhere else, and so its taps are known here and
+// not chosen at each call.
 pub fn mix_words(ws: &mut [u32], s: Spot, words: &[u32]) -> Spot
     requires { ⌜ InPool (length (now ws)) s ⌝ }
+    requires { ⌜ length (now ws) ≡ inputWords ⌝ }
     ensures { λ r. ⌜ (record { words = now (ws .exit); spot = r }) ≡ mix (shapeOf (length (now (ws .entry)))) (record { words = now (ws .entry); spot = s }) (wordsBytes (now (words .entry))) ⌝ }
     ensures { λ r. ⌜ InPool (length (now (ws .entry))) r ⌝ }
 {
-    let t = taps_of(ws.len());
+    let t = taps_of(INPUT_WORDS);
     let table = TWISTS;
     let mut p = place_of(ws, s);
     let mut k = 0;

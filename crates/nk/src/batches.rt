@@ -34,13 +34,14 @@ pub fn fill_room(
     clocks: &mut [u32; DEVICES],
     firsts: &mut [i64; DEVICES],
     seconds: &mut [i64; DEVICES],
+    came: &mut [u8; DEVICES],
     input: &mut [u32; INPUT_WORDS],
     blocking: &mut [u32; BLOCKING_WORDS],
     fast: &mut [u32; FAST_WORDS],
     generator: &mut [u32; GENERATOR_WORDS],
     room: &mut [u8; ROOM],
 ) -> Batch
-    ensures { λ r. let k = lent l (r .ledger) clocks firsts seconds input blocking fast generator in ⌜ Laid (batchOf (now (j .entry)) at (k .entry)) (k .exit) r (now (room .entry)) (now (room .exit)) ⌝ }
+    ensures { λ r. let k = lent l (r .ledger) clocks firsts seconds came input blocking fast generator in ⌜ Laid (batchOf (now (j .entry)) at (k .entry)) (k .exit) r (now (room .entry)) (now (room .exit)) ⌝ }
 {
     let mut out = [0u8; OUT_ROOM];
     let mut line = [0u8; LONGEST_LINE];
@@ -55,6 +56,7 @@ pub fn fill_room(
             clocks,
             firsts,
             seconds,
+            came,
             input,
             blocking,
             fast,

@@ -56,6 +56,7 @@ fn hand_over_all(j: &[u8], done: &mut usize) -> Sent
     let mut clocks = [0u32; DEVICES];
     let mut firsts = [0i64; DEVICES];
     let mut seconds = [0i64; DEVICES];
+    let mut came = [0u8; DEVICES];
     let mut input = [0u32; INPUT_WORDS];
     let mut blocking = [0u32; BLOCKING_WORDS];
     let mut fast = [0u32; FAST_WORDS];
@@ -65,6 +66,7 @@ fn hand_over_all(j: &[u8], done: &mut usize) -> Sent
         &mut clocks,
         &mut firsts,
         &mut seconds,
+        &mut came,
         &mut input,
         &mut blocking,
         &mut fast,
@@ -82,6 +84,7 @@ fn hand_over_all(j: &[u8], done: &mut usize) -> Sent
             &mut clocks,
             &mut firsts,
             &mut seconds,
+            &mut came,
             &mut input,
             &mut blocking,
             &mut fast,

@@ -1,7 +1,7 @@
 -- What the clocks' code rests on: bounds of signed numbers, said in ℕ, where omega reads them; a clock's wrapped difference, read as
 -- signed; and the floor of log2 by the leading zeros.
 use mathlib.Core.Path.{_≡_, refl, ap, subst}
-use mathlib.Core.Bool.{Bool, true, false, cond}
+use mathlib.Core.Bool.{Bool, true, false, _&&_, cond}
 use Prim.Native.Nat.{ℕ, zero, suc, _+_, _-_, _/_, _%_, _^_, _≤_, _<_, min, max}
 use native.Mathlib.Omega.{arith}
 use lib.Dec.{T, ltb}
@@ -14,8 +14,9 @@ use mir.Val.{SFits, toZ, ofZ}
 use mir.Facts.{toZ-ofZ, toZ-pos}
 use borrow.Author.Tests.{lt-ltb, le-ltb, ltb-true, ltb-false, leb-true, ne-eqb}
 use Rattle.ledger.specs.Choice.{pick}
-use Rattle.ledger.specs.Clocks.{signed, clockDiff, exceeds, nextTimer, log2, estimate, eventBits}
-use Rattle.ledger.specs.Range.{firstInRange, secondInRange, timerInRange}
+use Rattle.ledger.specs.Sizes.{eventsBefore}
+use Rattle.ledger.specs.Clocks.{signed, clockDiff, exceeds, nextTimer, log2, estimate, estimated, eventBits}
+use Rattle.ledger.specs.Range.{firstInRange, secondInRange, cameInRange, timerInRange}
 use Rattle.ledger.specs.declared.Timer.{Timer}
 use Rattle.ledger.proofs.Picks.{and-left, and-right}
 use Rattle.ledger.proofs.InRange.{diff-within}
@@ -108,11 +109,17 @@ pub diff-bound : (now before : ℕ) → mag (clockDiff now before) < 2 ^ 31
 diff-bound now before = first-bound (clockDiff now before) (diff-within now before)
 
 -- the numbers of a timer in range
+differences-fine : (t : Timer) → timerInRange t ≡ true → (firstInRange (t .d1) && secondInRange (t .d2)) ≡ true
+differences-fine t h = and-left (firstInRange (t .d1) && secondInRange (t .d2)) (cameInRange (t .came)) h
+
 pub d1-bound : (t : Timer) → timerInRange t ≡ true → mag (t .d1) < 2 ^ 31
-d1-bound t h = first-bound (t .d1) (and-left (firstInRange (t .d1)) (secondInRange (t .d2)) h)
+d1-bound t h = first-bound (t .d1) (and-left (firstInRange (t .d1)) (secondInRange (t .d2)) (differences-fine t h))
 
 pub d2-bound : (t : Timer) → timerInRange t ≡ true → natAbs (t .d2) < 2 ^ 32
-d2-bound t h = second-bound (t .d2) (and-right (firstInRange (t .d1)) (secondInRange (t .d2)) h)
+d2-bound t h = second-bound (t .d2) (and-right (firstInRange (t .d1)) (secondInRange (t .d2)) (differences-fine t h))
+
+pub came-bound : (t : Timer) → timerInRange t ≡ true → t .came ≤ eventsBefore
+came-bound t h = leb-true (t .came) eventsBefore (and-right (firstInRange (t .d1) && secondInRange (t .d2)) (cameInRange (t .came)) h)
 
 -- ---- the estimate
 -- the floor of log2, from its powers
@@ -134,7 +141,15 @@ pub estimate-is : (m : ℕ) → 0 < m → estimate m ≡ min 11 (log2 64 m)
 unfolding estimate pick
 estimate-is m h = simp (ne-eqb m 0 (λ e. omega arith))
 
--- the bits of an event, by the timer after it
-pub bits-of-next : (now : ℕ) (t u : Timer) → u ≡ nextTimer now t → estimate (min (natAbs (u .d1)) (min (natAbs (u .d2)) (natAbs (u .d2 -ℤ t .d2)))) ≡ eventBits now t
-unfolding eventBits
+-- the estimate of an event, by the timer after it
+pub bits-of-next : (now : ℕ) (t u : Timer) → u ≡ nextTimer now t → estimate (min (natAbs (u .d1)) (min (natAbs (u .d2)) (natAbs (u .d2 -ℤ t .d2)))) ≡ estimated now t
 bits-of-next now t u e = rw e
+
+-- the bits that it earns: its estimate where three events came, and 0 where not
+pub bits-of-known : (now : ℕ) (t : Timer) → t .came ≡ eventsBefore → eventBits now t ≡ estimated now t
+unfolding eventBits pick
+bits-of-known now t h = rw h refl
+
+pub bits-of-new : (now : ℕ) (t : Timer) → (t .came ≡ eventsBefore → ⊥) → eventBits now t ≡ 0
+unfolding eventBits pick
+bits-of-new now t h = rw (ne-eqb (t .came) eventsBefore h) refl

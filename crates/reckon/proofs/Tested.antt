@@ -3,10 +3,10 @@
 use mathlib.Core.Path.{_≡_, refl}
 use mathlib.Core.Bool.{Bool, true, false, _&&_, and-true, and-false, and-assoc}
 use mathlib.Core.List.{List, [], _∷_}
-use Prim.Native.Nat.{ℕ, suc, _+_, _-_, _%_, _^_, _≤_, _<_}
+use Prim.Native.Nat.{ℕ, suc, _+_, _-_, _%_, _^_, _≤_, _<_, max}
 use native.Mathlib.Numerals.{add-one}
 use native.Mathlib.Omega.{arith}
-use borrow.Author.Tests.{lt-ltb, le-ltb, ltb-true, ltb-false, leb-true, leb-false}
+use borrow.Author.Tests.{lt-ltb, le-ltb, le-leb, lt-leb, ltb-true, ltb-false, leb-true, leb-false}
 use lib.Bits.{bitOr, or-lt, or-add-and, and-le-l, and-le-r}
 use lib.Dec.{T, eqb, ltb, leb}
 use lib.IntN.{ℤ, pos, negsuc, natAbs}
@@ -75,3 +75,22 @@ module _ {A : Type 0} (k : ℕ) (f g : A → Bool) (xs ys : List A) (i met : ℕ
 pub one-more : {A : Type 0} (k : ℕ) (f g : A → Bool) (xs ys : List A) (i met r : ℕ) (d : A) → i < length xs → i < length ys
     → ltb r (2 ^ k) ≡ (f (getD xs i d) && g (getD ys i d)) → Whole k f g xs ys (i + 1) (bitOr met r) ≡ Whole k f g xs ys i met
 one-more k f g xs ys i met r d h l e = rw (or-below k met r, e, taken, add-one, drop-cons xs i d, drop-cons ys i d)
+
+-- ---- numbers of which the greatest is kept
+-- the greater of two is within a limit where both are
+pub max-within : (a b m : ℕ) → leb (max a b) m ≡ (leb a m && leb b m)
+max-within a b m = go (leb a m) (leb b m) refl refl
+  where
+    go : (s t : Bool) → leb a m ≡ s → leb b m ≡ t → leb (max a b) m ≡ (s && t)
+    go true true p q = le-leb (max a b) m (omega (arith, leb-true a m p, leb-true b m q))
+    go true false p q = lt-leb (max a b) m (omega (arith, leb-false b m q))
+    go false t p q = lt-leb (max a b) m (omega (arith, leb-false a m p))
+
+-- one list in one pass: `most` is the greatest at the places before i
+pub one-met : (m : ℕ) (xs : List ℕ) (i most : ℕ) → i < length xs
+    → (leb (max most (getD xs i 0)) m && every (λ (n : ℕ). leb n m) (drop (i + 1) xs)) ≡ (leb most m && every (λ (n : ℕ). leb n m) (drop i xs))
+one-met m xs i most h = rw (max-within most (getD xs i 0) m, and-assoc, add-one, drop-cons xs i 0)
+
+-- nothing is left
+pub none-left : {A : Type 0} (f : A → Bool) (xs : List A) (i : ℕ) (b : Bool) → length xs ≤ i → (b && every f (drop i xs)) ≡ b
+none-left f xs i b h = rw (drop-of-length-le xs h) (and-true b)

@@ -6,9 +6,11 @@ ghost use mathlib.Core.Bool.{true};
 ghost use lib.IntN.{natAbs, _-ℤ_};
 ghost use mir.Syntax.{w64};
 ghost use mir.Val.{SFits};
-ghost use Rattle.ledger.specs.Clocks.{clockDiff, exceeds, nextTimer, estimate, eventBits};
+ghost use Rattle.ledger.specs.Clocks.{clockDiff, exceeds, cameAfter, nextTimer, estimate, estimated, eventBits};
+ghost use Rattle.ledger.specs.Sizes.{eventsBefore};
 ghost use Rattle.ledger.specs.Range.{timerInRange};
 use ledger::Timer;
+use ledger::sizes::EVENTS_BEFORE;
 
 // now - before, modulo 2^32 and read as signed.
 pub fn clock_diff(now: u32, before: u32) -> i64
@@ -67,6 +69,14 @@ fn estimate(m: u64) -> u32
     if e < 11 { e } else { 11 }
 }
 
+// How many kept events of a device came, with one more; they are counted up to three.
+fn came_after(came: u8) -> u8
+    requires { ⌜ came ≤ eventsBefore ⌝ }
+    ensures { λ r. ⌜ r ≡ cameAfter came ⌝ }
+{
+    if came < EVENTS_BEFORE { came + 1 } else { came }
+}
+
 // The device's timer after an event at `now`.
 pub fn next_timer(now: u32, t: Timer) -> Timer
     requires { ⌜ timerInRange t ≡ true ⌝ }
@@ -78,13 +88,14 @@ pub fn next_timer(now: u32, t: Timer) -> Timer
         clock: now,
         d1: d1,
         d2: d2,
+        came: came_after(t.came),
     }
 }
 
-// The bits that an event at `now` earns: what the least of its three differences amounts to.
-pub fn event_bits(now: u32, t: Timer) -> u32
+// The estimate of an event at `now`: what the least of its three differences amounts to.
+fn estimated(now: u32, t: Timer) -> u32
     requires { ⌜ timerInRange t ≡ true ⌝ }
-    ensures { λ r. ⌜ r ≡ eventBits now t ⌝ }
+    ensures { λ r. ⌜ r ≡ estimated now t ⌝ }
     ensures { λ r. ⌜ r ≤ 11 ⌝ }
 {
     let u = next_timer(now, t);
@@ -93,4 +104,16 @@ pub fn event_bits(now: u32, t: Timer) -> u32
     let second = amount(u.d2);
     let third = amount(d3);
     estimate(least(first, least(second, third)))
+}
+
+// The bits that an event at `now` earns: nothing until three kept events of its device came before it.
+pub fn event_bits(now: u32, t: Timer) -> u32
+    requires { ⌜ timerInRange t ≡ true ⌝ }
+    ensures { λ r. ⌜ r ≡ eventBits now t ⌝ }
+    ensures { λ r. ⌜ r ≤ 11 ⌝ }
+{
+    if t.came == EVENTS_BEFORE {
+        return estimated(now, t);
+    }
+    0
 }

@@ -3,17 +3,18 @@
 ghost use mathlib.Core.Path.{_≡_};
 ghost use mathlib.Core.Bool.{_&&_};
 ghost use mathlib.Core.List.{List, []};
-ghost use Prim.Native.Nat.{ℕ, _^_};
+ghost use Prim.Native.Nat.{ℕ, _^_, max};
 ghost use lib.Dec.{ltb};
 ghost use lib.ListN.{length};
 ghost use Rattle.ledger.specs.Timers.{timersOf};
-ghost use Rattle.ledger.specs.Range.{poolInRange, firstInRange, secondInRange, timerInRange, timersInRange, ledgerInRange, othersInRange, sameWords, fixedWords};
+ghost use Rattle.ledger.specs.Range.{poolInRange, firstInRange, secondInRange, cameInRange, every, timerInRange, ledgerInRange, othersInRange, sameWords, fixedWords};
 use crate::clocks::amount;
 use ledger::Gauge;
 use ledger::Ledger;
 use ledger::Timer;
 use ledger::sizes::BLOCKING_SIZE;
 use ledger::sizes::BLOCKING_WORDS;
+use ledger::sizes::EVENTS_BEFORE;
 use ledger::sizes::INPUT_SIZE;
 use ledger::sizes::INPUT_WORDS;
 use std::num::wrapping_sub_u64;
@@ -40,7 +41,7 @@ fn reach(d1: i64, d2: i64) -> u64
 pub fn timer_in_range(t: Timer) -> bool
     ensures { λ r. ⌜ r ≡ timerInRange t ⌝ }
 {
-    reach(t.d1, t.d2) < 0x1_0000_0000
+    (reach(t.d1, t.d2) < 0x1_0000_0000) & (t.came <= EVENTS_BEFORE)
 }
 
 // A pool of `words` words: its count within its size, its position inside it, no rotation above 31.
@@ -69,11 +70,10 @@ fn same_words(fixed: [u32; 4]) -> bool
         & (fixed[3] == 0x6b20_6574)
 }
 
-// Every device's timer, in one pass over both arrays. A bit from 2^32 on, once met, stays; one comparison at the end tells. The clocks
-// may be any: none is out of range.
-fn timers_in_range(firsts: &[i64], seconds: &[i64]) -> bool
+// Every device's differences, in one pass over both arrays. A bit from 2^32 on, once met, stays; one comparison at the end tells.
+fn differences_in_range(firsts: &[i64], seconds: &[i64]) -> bool
     requires { ⌜ length (now firsts) ≡ length (now seconds) ⌝ }
-    ensures { λ r. ⌜ r ≡ timersInRange (timersOf [] (now (firsts .entry)) (now (seconds .entry))) ⌝ }
+    ensures { λ r. ⌜ r ≡ (every firstInRange (now (firsts .entry)) && every secondInRange (now (seconds .entry))) ⌝ }
 {
     let mut met: u64 = 0;
     let mut i: usize = 0;
@@ -84,11 +84,31 @@ fn timers_in_range(firsts: &[i64], seconds: &[i64]) -> bool
     met < 0x1_0000_0000
 }
 
+// The greater of two counts.
+fn greater(a: u8, b: u8) -> u8
+    ensures { λ r. ⌜ r ≡ max a b ⌝ }
+{
+    if a < b { b } else { a }
+}
+
+// Every device's count of kept events, in a pass of its own, since they are bytes: the greatest of them tells.
+fn counts_in_range(came: &[u8]) -> bool
+    ensures { λ r. ⌜ r ≡ every cameInRange (now (came .entry)) ⌝ }
+{
+    let mut most: u8 = 0;
+    let mut device: usize = 0;
+    while device < came.len() {
+        most = greater(most, came[device]);
+        device += 1;
+    }
+    most <= EVENTS_BEFORE
+}
+
 // What the ledger does not hold: all timers, whatever their clocks, and generator words 0 to 3. The timers come as slices: of an array the
 // compiler unrolls the loop before it asks whether to make this a part of its caller, and then it is too large.
-pub fn others_in_range(firsts: &[i64], seconds: &[i64], fixed: [u32; 4]) -> bool
+pub fn others_in_range(firsts: &[i64], seconds: &[i64], came: &[u8], fixed: [u32; 4]) -> bool
     requires { ⌜ length (now firsts) ≡ length (now seconds) ⌝ }
-    ensures { λ r. ⌜ ((clocks : List ℕ) → r ≡ othersInRange (timersOf clocks (now (firsts .entry)) (now (seconds .entry))) fixed) ⌝ }
+    ensures { λ r. ⌜ ((clocks : List ℕ) → r ≡ othersInRange (timersOf clocks (now (firsts .entry)) (now (seconds .entry)) (now (came .entry))) fixed) ⌝ }
 {
-    timers_in_range(firsts, seconds) & same_words(fixed)
+    differences_in_range(firsts, seconds) & counts_in_range(came) & same_words(fixed)
 }

@@ -1,4 +1,4 @@
-// A device's timer in the table: its number in each of three arrays.
+// A device's timer in the table: its number in each of four arrays.
 ghost use mathlib.Core.Path.{_≡_};
 ghost use Prim.Native.Nat.{_<_};
 ghost use lib.IntN.{pos};
@@ -29,23 +29,33 @@ fn difference_at(differences: &[i64], device: usize) -> i64
     0
 }
 
+// How many kept events of a device came; where there is no such device, 0.
+fn count_at(came: &[u8], device: usize) -> u8
+    ensures { λ r. ⌜ r ≡ getD (now (came .entry)) device 0 ⌝ }
+{
+    if device < came.len() { came[device] } else { 0 }
+}
+
 // The timer of a device; where there is no such device, what stands here is not used.
 pub fn timer_of(
     clocks: &[u32; DEVICES],
     firsts: &[i64; DEVICES],
     seconds: &[i64; DEVICES],
+    came: &[u8; DEVICES],
     device: u32,
 ) -> Timer
-    ensures { λ r. ⌜ r ≡ timerOf (timersOf (now (clocks .entry)) (now (firsts .entry)) (now (seconds .entry))) device ⌝ }
+    ensures { λ r. ⌜ r ≡ timerOf (timersOf (now (clocks .entry)) (now (firsts .entry)) (now (seconds .entry)) (now (came .entry))) device ⌝ }
 {
     let i = device as usize;
     let clock = clock_at(clocks, i);
     let first = difference_at(firsts, i);
     let second = difference_at(seconds, i);
+    let count = count_at(came, i);
     Timer {
         clock: clock,
         d1: first,
         d2: second,
+        came: count,
     }
 }
 
@@ -63,14 +73,16 @@ pub fn keep_timer(
     clocks: &mut [u32; DEVICES],
     firsts: &mut [i64; DEVICES],
     seconds: &mut [i64; DEVICES],
+    came: &mut [u8; DEVICES],
     device: u32,
     t: Timer,
 )
     requires { ⌜ device < devices ⌝ }
-    ensures { λ _. ⌜ timersOf (now (clocks .exit)) (now (firsts .exit)) (now (seconds .exit)) ≡ kept device t (timersOf (now (clocks .entry)) (now (firsts .entry)) (now (seconds .entry))) ⌝ }
+    ensures { λ _. ⌜ timersOf (now (clocks .exit)) (now (firsts .exit)) (now (seconds .exit)) (now (came .exit)) ≡ kept device t (timersOf (now (clocks .entry)) (now (firsts .entry)) (now (seconds .entry)) (now (came .entry))) ⌝ }
 {
     let i = device as usize;
     clocks[i] = t.clock;
+    came[i] = t.came;
     keep_difference(firsts, device, t.d1);
     keep_difference(seconds, device, t.d2);
 }

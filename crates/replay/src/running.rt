@@ -40,6 +40,7 @@ fn read_into(
     l: Ledger,
     firsts: &[i64; DEVICES],
     seconds: &[i64; DEVICES],
+    came: &[u8; DEVICES],
     input: &mut [u32; INPUT_WORDS],
     generator: &mut [u32; GENERATOR_WORDS],
     at: u32,
@@ -47,10 +48,19 @@ fn read_into(
     len: u32,
 ) -> Done
     requires { ⌜ length (now out) ≡ longest + 1 ⌝ }
-    ensures { λ r. ⌜ ((clocks blocking fast : List ℕ) → Leaves (lent l (r .ledger) (still clocks) firsts seconds input (still blocking) (still fast) generator) (r .answer) (generatorRead at len) (now (out .entry)) (now (out .exit))) ⌝ }
+    ensures { λ r. ⌜ ((clocks blocking fast : List ℕ) → Leaves (lent l (r .ledger) (still clocks) firsts seconds came input (still blocking) (still fast) generator) (r .answer) (generatorRead at len) (now (out .entry)) (now (out .exit))) ⌝ }
 {
     let n = room_for(len);
-    read_on(l, firsts, seconds, input, generator, at, &mut out[..n])
+    read_on(
+        l,
+        firsts,
+        seconds,
+        came,
+        input,
+        generator,
+        at,
+        &mut out[..n],
+    )
 }
 
 // A blocking read of len bytes.
@@ -58,6 +68,7 @@ fn blocking_read_into(
     l: Ledger,
     firsts: &[i64; DEVICES],
     seconds: &[i64; DEVICES],
+    came: &[u8; DEVICES],
     input: &mut [u32; INPUT_WORDS],
     blocking: &mut [u32; BLOCKING_WORDS],
     generator: &[u32; GENERATOR_WORDS],
@@ -65,13 +76,14 @@ fn blocking_read_into(
     len: u32,
 ) -> Done
     requires { ⌜ length (now out) ≡ longest + 1 ⌝ }
-    ensures { λ r. ⌜ ((clocks fast : List ℕ) → Leaves (lent l (r .ledger) (still clocks) firsts seconds input blocking (still fast) generator) (r .answer) (blockingReadOf len) (now (out .entry)) (now (out .exit))) ⌝ }
+    ensures { λ r. ⌜ ((clocks fast : List ℕ) → Leaves (lent l (r .ledger) (still clocks) firsts seconds came input blocking (still fast) generator) (r .answer) (blockingReadOf len) (now (out .entry)) (now (out .exit))) ⌝ }
 {
     let n = room_for(len);
     blocking_read_on(
         l,
         firsts,
         seconds,
+        came,
         input,
         blocking,
         generator,
@@ -88,6 +100,7 @@ pub fn run(
     clocks: &mut [u32; DEVICES],
     firsts: &mut [i64; DEVICES],
     seconds: &mut [i64; DEVICES],
+    came: &mut [u8; DEVICES],
     input: &mut [u32; INPUT_WORDS],
     blocking: &mut [u32; BLOCKING_WORDS],
     fast: &mut [u32; FAST_WORDS],
@@ -95,7 +108,7 @@ pub fn run(
     out: &mut [u8],
 ) -> Done
     requires { ⌜ length (now out) ≡ longest + 1 ⌝ }
-    ensures { λ r. ⌜ Leaves (lent l (r .ledger) clocks firsts seconds input blocking fast generator) (r .answer) (callWith (carriedBy (now (j .entry)) it next) it) (now (out .entry)) (now (out .exit)) ⌝ }
+    ensures { λ r. ⌜ Leaves (lent l (r .ledger) clocks firsts seconds came input blocking fast generator) (r .answer) (callWith (carriedBy (now (j .entry)) it next) it) (now (out .entry)) (now (out .exit)) ⌝ }
 {
     match it {
         Record::Event {
@@ -108,6 +121,7 @@ pub fn run(
             clocks,
             firsts,
             seconds,
+            came,
             input,
             generator,
             device,
@@ -124,6 +138,7 @@ pub fn run(
             l,
             firsts,
             seconds,
+            came,
             input,
             fast,
             generator,
@@ -136,6 +151,7 @@ pub fn run(
             l,
             firsts,
             seconds,
+            came,
             input,
             generator,
             payload(j, next, len),
@@ -144,15 +160,36 @@ pub fn run(
             l,
             firsts,
             seconds,
+            came,
             input,
             generator,
             now,
             payload(j, next, len),
             credit,
         ),
-        Record::Read { now, len } => read_into(l, firsts, seconds, input, generator, now, out, len),
+        Record::Read { now, len } => read_into(
+            l,
+            firsts,
+            seconds,
+            came,
+            input,
+            generator,
+            now,
+            out,
+            len,
+        ),
         Record::BlockingRead { now: _, len } => {
-            blocking_read_into(l, firsts, seconds, input, blocking, generator, out, len)
+            blocking_read_into(
+                l,
+                firsts,
+                seconds,
+                came,
+                input,
+                blocking,
+                generator,
+                out,
+                len,
+            )
         }
     }
 }

@@ -45,6 +45,7 @@ pub fn take_turn(
     clocks: &mut [u32; DEVICES],
     firsts: &mut [i64; DEVICES],
     seconds: &mut [i64; DEVICES],
+    came: &mut [u8; DEVICES],
     input: &mut [u32; INPUT_WORDS],
     blocking: &mut [u32; BLOCKING_WORDS],
     fast: &mut [u32; FAST_WORDS],
@@ -52,7 +53,7 @@ pub fn take_turn(
     out: &mut [u8; OUT_ROOM],
     room: &mut [u8; LONGEST_LINE],
 ) -> Turn
-    ensures { λ r. let k = lent l (r .ledger) clocks firsts seconds input blocking fast generator in ⌜ Took (turnOf (now (j .entry)) at (k .entry)) (k .exit) r (now (out .entry)) (now (out .exit)) (now (room .entry)) (now (room .exit)) ⌝ }
+    ensures { λ r. let k = lent l (r .ledger) clocks firsts seconds came input blocking fast generator in ⌜ Took (turnOf (now (j .entry)) at (k .entry)) (k .exit) r (now (out .entry)) (now (out .exit)) (now (room .entry)) (now (room .exit)) ⌝ }
 {
     match read(j, at) {
         Found::One(it, next) => {
@@ -64,6 +65,7 @@ pub fn take_turn(
                 clocks,
                 firsts,
                 seconds,
+                came,
                 input,
                 blocking,
                 fast,

@@ -4,4 +4,5 @@ pub mod Strokes
 pub mod FixedAnswers
 pub mod ExactlyTold
 pub mod PublicAlone
+pub mod NewDevices
 pub mod WorkReal

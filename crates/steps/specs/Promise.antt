@@ -23,11 +23,11 @@ abbrev pub still : {A : Type 0} → List A → Lent A
 still xs = record { entry = record { ptr = (0, 0); name = 0; now = xs }; exit = record { ptr = (0, 0); name = 0; now = xs } }
 
 -- the record, at entry and at exit
-abbrev pub lent : Ledger → Ledger → Lent ℕ → Lent ℤ → Lent ℤ → Lent ℕ → Lent ℕ → Lent ℕ → Lent ℕ → Both Keeper Keeper
-lent l m clocks firsts seconds input blocking fast generator =
+abbrev pub lent : Ledger → Ledger → Lent ℕ → Lent ℤ → Lent ℤ → Lent ℕ → Lent ℕ → Lent ℕ → Lent ℕ → Lent ℕ → Both Keeper Keeper
+lent l m clocks firsts seconds came input blocking fast generator =
     record {
-      entry = keeperOf l (timersOf (clocks .entry .now) (firsts .entry .now) (seconds .entry .now)) (input .entry .now) (blocking .entry .now) (fast .entry .now) (generator .entry .now);
-      exit = keeperOf m (timersOf (clocks .exit .now) (firsts .exit .now) (seconds .exit .now)) (input .exit .now) (blocking .exit .now) (fast .exit .now) (generator .exit .now);
+      entry = keeperOf l (timersOf (clocks .entry .now) (firsts .entry .now) (seconds .entry .now) (came .entry .now)) (input .entry .now) (blocking .entry .now) (fast .entry .now) (generator .entry .now);
+      exit = keeperOf m (timersOf (clocks .exit .now) (firsts .exit .now) (seconds .exit .now) (came .exit .now)) (input .exit .now) (blocking .exit .now) (fast .exit .now) (generator .exit .now);
     }
 
 -- ---- the record, the answer and the output room, all as they are when a call is over

@@ -16,6 +16,11 @@ pub data Ran : Keeper → List Call → List Left → Type 0 where
   next : {k : Keeper} {c : Call} {cs : List Call} (room : List ℕ) {x : Left} {xs : List Left}
       → x ≡ leaves k c room → Ran (x .keeper) cs xs → Ran k (c ∷ cs) (x ∷ xs)
 
+-- the record at the end
+unfoldable pub lastOf : Keeper → List Left → Keeper
+lastOf k [] = k
+lastOf k (x ∷ xs) = lastOf (x .keeper) xs
+
 -- a record that held anything, made a keeper from start bytes, and then so many calls
 pub record MadeAndRan (k : Keeper) (start : List ℕ) (m : Left) (cs : List Call) (xs : List Left) : Type 0 where
   pub made : m ≡ leavesMade k start

@@ -32,6 +32,7 @@ pub fn event_on(
     clocks: &mut [u32; DEVICES],
     firsts: &mut [i64; DEVICES],
     seconds: &mut [i64; DEVICES],
+    came: &mut [u8; DEVICES],
     input: &mut [u32; INPUT_WORDS],
     generator: &mut [u32; GENERATOR_WORDS],
     device: u32,
@@ -39,15 +40,15 @@ pub fn event_on(
     stamp: u64,
     value: u32,
 ) -> Done
-    ensures { λ r. ⌜ ((blocking fast : List ℕ) → Leaves (lent l (r .ledger) clocks firsts seconds input (still blocking) (still fast) generator) (r .answer) (deviceEvent device at stamp value) [] []) ⌝ }
+    ensures { λ r. ⌜ ((blocking fast : List ℕ) → Leaves (lent l (r .ledger) clocks firsts seconds came input (still blocking) (still fast) generator) (r .answer) (deviceEvent device at stamp value) [] []) ⌝ }
 {
-    let others = others_in_range(&firsts[..], &seconds[..], generator);
-    let t = timer_of(clocks, firsts, seconds, device);
+    let others = others_in_range(&firsts[..], &seconds[..], &came[..], generator);
+    let t = timer_of(clocks, firsts, seconds, came, device);
     let p = decide_event(others, l, t, device, at, value);
     if p.number != DONE {
         return answered(l, p.number);
     }
-    keep_timer(clocks, firsts, seconds, device, p.timer);
+    keep_timer(clocks, firsts, seconds, came, device, p.timer);
     let fed = feed_event(&mut input[..], l.input.spot, stamp, at, value);
     let s = reseed(&mut input[..], fed, &mut generator[..], p.reseed);
     carried_out(p, s, l.blocking.spot)
@@ -58,6 +59,7 @@ pub fn interrupt_on(
     l: Ledger,
     firsts: &[i64; DEVICES],
     seconds: &[i64; DEVICES],
+    came: &[u8; DEVICES],
     input: &mut [u32; INPUT_WORDS],
     fast: &mut [u32; FAST_WORDS],
     generator: &mut [u32; GENERATOR_WORDS],
@@ -66,9 +68,9 @@ pub fn interrupt_on(
     stamp: u64,
     address: u64,
 ) -> Done
-    ensures { λ r. ⌜ ((clocks blocking : List ℕ) → Leaves (lent l (r .ledger) (still clocks) firsts seconds input (still blocking) fast generator) (r .answer) (interrupted at number stamp address) [] []) ⌝ }
+    ensures { λ r. ⌜ ((clocks blocking : List ℕ) → Leaves (lent l (r .ledger) (still clocks) firsts seconds came input (still blocking) fast generator) (r .answer) (interrupted at number stamp address) [] []) ⌝ }
 {
-    let others = others_in_range(&firsts[..], &seconds[..], generator);
+    let others = others_in_range(&firsts[..], &seconds[..], &came[..], generator);
     let p = decide_interrupt(others, l, at, number);
     if p.number != DONE {
         return answered(l, p.number);
@@ -84,13 +86,14 @@ pub fn write_on(
     l: Ledger,
     firsts: &[i64; DEVICES],
     seconds: &[i64; DEVICES],
+    came: &[u8; DEVICES],
     input: &mut [u32; INPUT_WORDS],
     generator: &[u32; GENERATOR_WORDS],
     bytes: &[u8],
 ) -> Done
-    ensures { λ r. ⌜ ((clocks blocking fast : List ℕ) → Leaves (lent l (r .ledger) (still clocks) firsts seconds input (still blocking) (still fast) generator) (r .answer) (written (now (bytes .entry))) [] []) ⌝ }
+    ensures { λ r. ⌜ ((clocks blocking fast : List ℕ) → Leaves (lent l (r .ledger) (still clocks) firsts seconds came input (still blocking) (still fast) generator) (r .answer) (written (now (bytes .entry))) [] []) ⌝ }
 {
-    let others = others_in_range(&firsts[..], &seconds[..], generator);
+    let others = others_in_range(&firsts[..], &seconds[..], &came[..], generator);
     let p = decide_write(others, l, bytes.len());
     if p.number != DONE {
         return answered(l, p.number);
@@ -104,15 +107,16 @@ pub fn seed_on(
     l: Ledger,
     firsts: &[i64; DEVICES],
     seconds: &[i64; DEVICES],
+    came: &[u8; DEVICES],
     input: &mut [u32; INPUT_WORDS],
     generator: &mut [u32; GENERATOR_WORDS],
     at: u32,
     bytes: &[u8],
     credit: u32,
 ) -> Done
-    ensures { λ r. ⌜ ((clocks blocking fast : List ℕ) → Leaves (lent l (r .ledger) (still clocks) firsts seconds input (still blocking) (still fast) generator) (r .answer) (seededWith at (now (bytes .entry)) credit) [] []) ⌝ }
+    ensures { λ r. ⌜ ((clocks blocking fast : List ℕ) → Leaves (lent l (r .ledger) (still clocks) firsts seconds came input (still blocking) (still fast) generator) (r .answer) (seededWith at (now (bytes .entry)) credit) [] []) ⌝ }
 {
-    let others = others_in_range(&firsts[..], &seconds[..], generator);
+    let others = others_in_range(&firsts[..], &seconds[..], &came[..], generator);
     let p = decide_seed(others, l, at, bytes.len(), credit);
     if p.number != DONE {
         return answered(l, p.number);

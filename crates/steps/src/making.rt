@@ -82,13 +82,14 @@ pub fn make_on(
     clocks: &mut [u32; DEVICES],
     firsts: &mut [i64; DEVICES],
     seconds: &mut [i64; DEVICES],
+    came: &mut [u8; DEVICES],
     input: &mut [u32; INPUT_WORDS],
     blocking: &mut [u32; BLOCKING_WORDS],
     fast: &mut [u32; FAST_WORDS],
     generator: &mut [u32; GENERATOR_WORDS],
     start: &[u8],
 ) -> Done
-    ensures { λ r. let k = lent l (r .ledger) clocks firsts seconds input blocking fast generator in ⌜ left (k .exit) (r .answer) [] ≡ leavesMade (k .entry) (now (start .entry)) ⌝ }
+    ensures { λ r. let k = lent l (r .ledger) clocks firsts seconds came input blocking fast generator in ⌜ left (k .exit) (r .answer) [] ≡ leavesMade (k .entry) (now (start .entry)) ⌝ }
 {
     if start.len() != START_BYTES {
         return answered(l, START_NOT_48);
@@ -97,6 +98,7 @@ pub fn make_on(
     *clocks = [0u32; DEVICES];
     *firsts = [0i64; DEVICES];
     *seconds = [0i64; DEVICES];
+    *came = [0u8; DEVICES];
     *input = [0u32; INPUT_WORDS];
     *blocking = [0u32; BLOCKING_WORDS];
     *fast = [0u32; FAST_WORDS];

@@ -16,11 +16,16 @@ fn fixed_words(g: [u32; GENERATOR_WORDS]) -> [u32; 4]
 }
 
 // All timers and the generator's fixed words are in range. The clocks have no say.
-pub fn others_in_range(firsts: &[i64], seconds: &[i64], generator: &[u32; GENERATOR_WORDS]) -> bool
+pub fn others_in_range(
+    firsts: &[i64],
+    seconds: &[i64],
+    came: &[u8],
+    generator: &[u32; GENERATOR_WORDS],
+) -> bool
     requires { ⌜ length (now firsts) ≡ length (now seconds) ⌝ }
-    ensures { λ r. ⌜ ((clocks : List ℕ) → r ≡ othersInRange (timersOf clocks (now (firsts .entry)) (now (seconds .entry))) (take 4 (now (generator .entry)))) ⌝ }
+    ensures { λ r. ⌜ ((clocks : List ℕ) → r ≡ othersInRange (timersOf clocks (now (firsts .entry)) (now (seconds .entry)) (now (came .entry))) (take 4 (now (generator .entry)))) ⌝ }
 {
     let g = *generator;
     let w = fixed_words(g);
-    reckon::others_in_range(firsts, seconds, w)
+    reckon::others_in_range(firsts, seconds, came, w)
 }

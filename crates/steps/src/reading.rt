@@ -27,14 +27,15 @@ pub fn read_on(
     l: Ledger,
     firsts: &[i64; DEVICES],
     seconds: &[i64; DEVICES],
+    came: &[u8; DEVICES],
     input: &mut [u32; INPUT_WORDS],
     generator: &mut [u32; GENERATOR_WORDS],
     at: u32,
     out: &mut [u8],
 ) -> Done
-    ensures { λ r. ⌜ ((clocks blocking fast : List ℕ) → Leaves (lent l (r .ledger) (still clocks) firsts seconds input (still blocking) (still fast) generator) (r .answer) (generatorRead at (length (now (out .entry)))) (now (out .entry)) (now (out .exit))) ⌝ }
+    ensures { λ r. ⌜ ((clocks blocking fast : List ℕ) → Leaves (lent l (r .ledger) (still clocks) firsts seconds came input (still blocking) (still fast) generator) (r .answer) (generatorRead at (length (now (out .entry)))) (now (out .entry)) (now (out .exit))) ⌝ }
 {
-    let others = others_in_range(&firsts[..], &seconds[..], generator);
+    let others = others_in_range(&firsts[..], &seconds[..], &came[..], generator);
     let p = decide_read(others, l, at, out.len());
     if p.number != DONE {
         return answered(l, p.number);
@@ -49,14 +50,15 @@ pub fn blocking_read_on(
     l: Ledger,
     firsts: &[i64; DEVICES],
     seconds: &[i64; DEVICES],
+    came: &[u8; DEVICES],
     input: &mut [u32; INPUT_WORDS],
     blocking: &mut [u32; BLOCKING_WORDS],
     generator: &[u32; GENERATOR_WORDS],
     out: &mut [u8],
 ) -> Done
-    ensures { λ r. ⌜ ((clocks fast : List ℕ) → Leaves (lent l (r .ledger) (still clocks) firsts seconds input blocking (still fast) generator) (r .answer) (blockingReadOf (length (now (out .entry)))) (now (out .entry)) (now (out .exit))) ⌝ }
+    ensures { λ r. ⌜ ((clocks fast : List ℕ) → Leaves (lent l (r .ledger) (still clocks) firsts seconds came input blocking (still fast) generator) (r .answer) (blockingReadOf (length (now (out .entry)))) (now (out .entry)) (now (out .exit))) ⌝ }
 {
-    let others = others_in_range(&firsts[..], &seconds[..], generator);
+    let others = others_in_range(&firsts[..], &seconds[..], &came[..], generator);
     let p = decide_blocking_read(others, l, out.len());
     if p.number != DONE {
         return answered(l, p.number);

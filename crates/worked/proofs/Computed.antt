@@ -4,6 +4,7 @@ use mathlib.Core.Path.{_≡_, refl}
 use mathlib.Core.Bool.{Bool, true, false}
 use mathlib.Core.List.{List, [], _∷_, _++_, zipWith, reverse}
 use Prim.Native.Nat.{ℕ, zero, suc, _+_, _*_}
+use lib.IntN.{pos}
 use lib.ListN.{take, drop, replicate, getD}
 use Rattle.words.specs.Words.{rotl}
 use Rattle.words.specs.Bytes.{leBytes, leNumber, swapped, wordsBytes, bytesWords}
@@ -19,7 +20,7 @@ use Rattle.pool.specs.Mixing.{twisted, tapped, mixedWords, mix}
 use Rattle.pool.specs.Extracting.{hashed, poolHash, folded, extractBlocks}
 use Rattle.keeper.specs.FastPool.{stirred}
 use Rattle.keeper.specs.Generator.{xorAt, counted, stream, generated}
-use Rattle.keeper.specs.Record.{fresh, withLedger, withInputPool, withBlockingPool, withFast, withGenerator, Outcome}
+use Rattle.keeper.specs.Record.{fresh, withLedger, withTimer, withInputPool, withBlockingPool, withFast, withGenerator, Outcome}
 use Rattle.keeper.specs.Calls.{Call, deviceEvent, interrupted, written, seededWith, generatorRead, blockingReadOf}
 use Rattle.keeper.specs.Narrative.{reseed, creditInput, eventCall, interruptCall, writeCall, seedCall, generate, readCall, transfer, deliver, blockingCall, act, told}
 use Rattle.keeper.specs.declared.Keeper.{Keeper}
@@ -34,11 +35,22 @@ line8 o =
     o .answer .number ∷ o .answer .delivered ∷ o .answer .blocks ∷ o .answer .compressions ∷ o .keeper .ledger .input .count ∷ o .keeper .ledger .blocking .count
     ∷ o .keeper .ledger .input .spot .at ∷ o .keeper .ledger .input .spot .turn ∷ []
 
--- a device event: 16 bytes mixed, 10 bits credited
+-- a device event on a keeper of which three events of that device came: 16 bytes mixed, 10 bits credited. A fresh keeper mixes the same bytes
+-- and credits nothing
+abbrev known : Keeper
+known = withTimer 1 (record { clock = 0; d1 = pos 0; d2 = pos 0; came = 3 }) zero48
+
+abbrev event : Keeper → Outcome
+event k = told k (deviceEvent 1 1500 0x0123456789abcdef 7)
+
+abbrev mixed : List ℕ
+mixed =
+    0x452638f9 ∷ 0x44a2cd0b ∷ 0x4885629b ∷ 0x29b81e1b ∷ 0x96c1f699 ∷ 0x6d29a14e ∷ 0xdfaf06f2 ∷ 0xcbcd28d7
+    ∷ 0x34dc59fd ∷ 0x7d91c9a9 ∷ 0x5a6ccdca ∷ 0xbef566bb ∷ 0x87fc2619 ∷ 0xf5e7254e ∷ 0xc2d7f374 ∷ 0xa00ae265 ∷ []
+
 pub event-computes :
-    (line8 (told zero48 (deviceEvent 1 1500 0x0123456789abcdef 7))) ∷ (drop 112 ((told zero48 (deviceEvent 1 1500 0x0123456789abcdef 7)) .keeper .input)) ∷ []
-    ≡ (0 ∷ 0 ∷ 0 ∷ 0 ∷ 60 ∷ 0 ∷ 112 ∷ 16 ∷ []) ∷ (0x452638f9 ∷ 0x44a2cd0b ∷ 0x4885629b ∷ 0x29b81e1b ∷ 0x96c1f699 ∷ 0x6d29a14e ∷ 0xdfaf06f2 ∷ 0xcbcd28d7
-    ∷ 0x34dc59fd ∷ 0x7d91c9a9 ∷ 0x5a6ccdca ∷ 0xbef566bb ∷ 0x87fc2619 ∷ 0xf5e7254e ∷ 0xc2d7f374 ∷ 0xa00ae265 ∷ []) ∷ []
+    (line8 (event zero48)) ∷ (take 3 ((event zero48) .keeper .came)) ∷ (line8 (event known)) ∷ (take 3 ((event known) .keeper .came)) ∷ (drop 112 ((event known) .keeper .input)) ∷ (drop 112 ((event zero48) .keeper .input)) ∷ []
+    ≡ (0 ∷ 0 ∷ 0 ∷ 0 ∷ 0 ∷ 0 ∷ 112 ∷ 16 ∷ []) ∷ (0 ∷ 1 ∷ 0 ∷ []) ∷ (0 ∷ 0 ∷ 0 ∷ 0 ∷ 60 ∷ 0 ∷ 112 ∷ 16 ∷ []) ∷ (0 ∷ 3 ∷ 0 ∷ []) ∷ mixed ∷ mixed ∷ []
 unfolding told inRange othersInRange ledgerInRange act eventCall creditInput eventBits estimate log2 signed credited further mix mixedWords tapped twisted rotl leBytes pick
 event-computes = refl
 

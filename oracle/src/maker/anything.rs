@@ -4,7 +4,7 @@ use std::borrow::Cow;
 
 use super::HALF;
 use crate::journal::Record;
-use crate::keeper::{Keeper, START};
+use crate::keeper::{Keeper, DEVICES, START};
 use crate::random::Random;
 
 /// Start bytes; the counter in them is close to a carry now and then.
@@ -113,15 +113,31 @@ fn any_credit(random: &mut Random, length: usize) -> u32 {
     random.pick(&[0, most, most, most.saturating_sub(1), below, below, over])
 }
 
+/// Any device, and some that are none. Mostly it is one that came before: few
+/// of the others come often enough to earn.
+fn any_device(random: &mut Random, keeper: &Keeper) -> u8 {
+    match random.below(10) {
+        0 | 1 => 0,
+        2..=6 => one_that_came(random, keeper),
+        9 => random.between(15, 20) as u8,
+        _ => random.between(0, 16) as u8,
+    }
+}
+
+/// A device of which an event came, or any where none did.
+fn one_that_came(random: &mut Random, keeper: &Keeper) -> u8 {
+    let mut devices: Vec<u8> = (0..DEVICES as u8).collect();
+    if keeper.timers.iter().any(|timer| timer.came > 0) {
+        devices.retain(|device| keeper.timers[usize::from(*device)].came > 0);
+    }
+    random.pick(&devices)
+}
+
 /// Any record at all. `large` allows bytes up to the longest.
 pub fn any_record(random: &mut Random, keeper: &Keeper, now: u32, large: bool) -> Record<'static> {
     match random.below(12) {
         0..=3 => {
-            let device = match random.below(10) {
-                0..=2 => 0,
-                9 => random.between(15, 20) as u8,
-                _ => random.between(0, 16) as u8,
-            };
+            let device = any_device(random, keeper);
             // Repeated values matter on device 0 and must not on others.
             let other = random.u32();
             let value = random.pick(&[keeper.last_value, 0, 1, other, other]);

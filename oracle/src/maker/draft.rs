@@ -10,6 +10,10 @@ use crate::pools::INPUT;
 use crate::random::Random;
 use crate::transcript::perform;
 
+/// Ticks so many that the next ones, if they are fewer than half of them, are
+/// the least of an event's differences.
+const FAR: u32 = 1 << 20;
+
 /// A journal being made, with a keeper that follows it: what to try next
 /// often depends on the counts so far.
 pub struct Draft {
@@ -40,6 +44,52 @@ impl Draft {
             stamp: random.u64(),
             value,
         });
+    }
+
+    /// Three events of a new device, which earn nothing, the last at this clock.
+    /// The next one earns what its ticks from there are worth.
+    pub fn introduce(&mut self, random: &mut Random, device: u8, last: u32) {
+        let far = random.pick(&[FAR, FAR.wrapping_neg()]);
+        for now in [last, last.wrapping_add(far), last] {
+            self.device(random, device, now);
+        }
+    }
+
+    /// An event that is worth something by its differences, so that it tells
+    /// whether its device earns.
+    pub fn worthy_event(&mut self, random: &mut Random, device: u8) {
+        let now = self.worthy_clock(random, device);
+        self.device(random, device, now);
+    }
+
+    /// An event of device 0 with its last value, which would be worth something
+    /// if it were kept.
+    pub fn repeated(&mut self, random: &mut Random) {
+        self.add(Record::Device {
+            now: self.worthy_clock(random, 0),
+            device: 0,
+            stamp: random.u64(),
+            value: self.keeper.last_value,
+        });
+    }
+
+    fn worthy_clock(&self, random: &mut Random, device: u8) -> u32 {
+        let timer = &self.keeper.timers[usize::from(device)];
+        loop {
+            let ticks = random.between(2, 100_000) as u32;
+            let ticks = random.pick(&[ticks, ticks.wrapping_neg()]);
+            let now = timer.clock.wrapping_add(ticks);
+            if timer.worth(now) > 0 {
+                return now;
+            }
+        }
+    }
+
+    /// An event within one tick of the last, which is worth nothing.
+    pub fn worthless_event(&mut self, random: &mut Random, device: u8) {
+        let clock = self.keeper.timers[usize::from(device)].clock;
+        let ticks = random.pick(&[0, 1, u32::MAX]);
+        self.device(random, device, clock.wrapping_add(ticks));
     }
 
     pub fn interrupt(&mut self, random: &mut Random, now: u32) {
@@ -103,6 +153,12 @@ impl Draft {
         }
     }
 
+    /// Brings the count to where one bit more seeds the keeper.
+    pub fn just_unseeded(&mut self, random: &mut Random) {
+        let count = random.between(1_019, 1_023) as u32;
+        self.steer_above(random, 1_019, count);
+    }
+
     /// Spills by time, until an interrupt at `now` will spill by time too. A
     /// quarter of the clock at a step always comes by such a place.
     pub fn wait_for_a_spill(&mut self, random: &mut Random, now: u32) {
@@ -164,6 +220,22 @@ mod tests {
             let mut draft = Draft::new([0; START], 0);
             draft.steer(&mut random, target);
             assert_eq!(draft.keeper.input.count, target);
+        }
+    }
+
+    #[test]
+    fn after_three_events_the_ticks_of_the_next_decide() {
+        let mut random = Random::new(0, 1);
+        for last in [0, 77, 1 << 31, u32::MAX] {
+            for (ticks, units) in [(0, 0), (1, 0), (2, 6), (4, 12), (2_047, 60), (4_096, 66)] {
+                for now in [last.wrapping_add(ticks), last.wrapping_sub(ticks)] {
+                    let mut draft = Draft::new([0; START], 0);
+                    draft.introduce(&mut random, 5, last);
+                    assert_eq!(draft.keeper.input.count, 0);
+                    draft.device(&mut random, 5, now);
+                    assert_eq!(draft.keeper.input.count, units);
+                }
+            }
         }
     }
 }

@@ -3,6 +3,7 @@
 use super::anything::{any_record, first_clock, start, Pace};
 use super::draft::Draft;
 use super::kinds::unknown_kind;
+use crate::keeper::DEVICES;
 use crate::random::Random;
 
 pub fn mix(random: &mut Random) -> Draft {
@@ -13,6 +14,11 @@ pub fn mix(random: &mut Random) -> Draft {
     if !random.one_in(4) {
         let bits = random.between(150, 900) as u32;
         draft.credit(random, bits);
+    }
+    // Most events of new devices look the same too.
+    for _ in 0..random.below(3) {
+        let device = random.below(DEVICES as u64) as u8;
+        draft.introduce(random, device, draft.now);
     }
     for _ in 0..random.between(1, 45) {
         draft.now = pace.next(random, draft.now);

@@ -2,7 +2,6 @@
 
 use super::anything::start;
 use super::draft::Draft;
-use crate::credits::clock_difference;
 use crate::keeper::DEVICES;
 use crate::random::Random;
 
@@ -26,51 +25,49 @@ pub fn reseed(random: &mut Random, turn: u64) -> Vec<u8> {
 }
 
 /// A clock from which 300,000 ticks go through zero, one that soon runs back
-/// through zero, and any other, in turn. None is so close to zero that a
-/// device's first event would earn nothing.
+/// through zero, and any other, in turn.
 fn seeding_clock(random: &mut Random, round: u64) -> u32 {
     let last = u64::from(u32::MAX);
     let clock = match round % 3 {
-        0 => random.between(last - 299_999, last - 1),
-        1 => random.between(2, 200_000),
-        _ => random.between(2, last - 1),
+        0 => random.between(last - 299_999, last),
+        1 => random.between(0, 200_000),
+        _ => random.between(0, last),
     };
     clock as u32
 }
 
-/// By the first events of all devices where these are worth enough, or by one
-/// event after seeds that just do not do it.
+/// By the fourth events of all devices, which are worth enough together, or by
+/// one such event after seeds that just do not do it. No event before a fourth
+/// earns.
 fn seed_by_event(draft: &mut Draft, random: &mut Random, clock: u32) {
-    let worth_enough = clock_difference(clock, 0).unsigned_abs() >= 2_048;
-    if !worth_enough || random.one_in(2) {
-        just_unseeded(draft, random);
+    if random.one_in(2) {
+        draft.just_unseeded(random);
+        let device = random.below(DEVICES as u64) as u8;
+        let ticks = random.between(2, 5_000) as u32;
+        draft.introduce(random, device, clock.wrapping_sub(ticks));
+        draft.device(random, device, clock);
+        return;
     }
     for device in (0..DEVICES as u8).rev() {
-        if !draft.keeper.seeded {
-            draft.device(random, device, clock);
-        }
+        let ticks = random.between(2_048, 5_000) as u32;
+        draft.introduce(random, device, clock.wrapping_sub(ticks));
+        draft.device(random, device, clock);
     }
 }
 
 fn seed_by_interrupt(draft: &mut Draft, random: &mut Random, clock: u32) {
     draft.wait_for_a_spill(random, clock);
-    just_unseeded(draft, random);
+    draft.just_unseeded(random);
     draft.interrupt(random, clock);
 }
 
 fn seed_by_seed(draft: &mut Draft, random: &mut Random, clock: u32) {
     if random.one_in(2) {
-        just_unseeded(draft, random);
+        draft.just_unseeded(random);
     }
     draft.now = clock;
     let bits = random.pick(&[171, 172, 256, 400]);
     draft.credit(random, bits);
-}
-
-/// Brings the count to where one bit more seeds the keeper.
-fn just_unseeded(draft: &mut Draft, random: &mut Random) {
-    let count = random.between(1_019, 1_023) as u32;
-    draft.steer_above(random, 1_019, count);
 }
 
 fn reads(draft: &mut Draft, random: &mut Random, round: u64) {

@@ -63,9 +63,10 @@ fn low_counts(draft: &mut Draft, random: &mut Random) {
             draft.credit(random, bits);
         }
         _ => {
-            // A first event of this device: its clock alone decides.
-            let now = random.pick(&[0, 1, 2, 3, 4]);
-            draft.device(random, 9, now);
+            // A fourth event of this device: its ticks alone decide.
+            draft.introduce(random, 9, draft.now);
+            let ticks = random.pick(&[0, 1, 2, 3, 4]);
+            draft.device(random, 9, draft.now.wrapping_add(ticks));
         }
     }
     draft.probe(random);
@@ -120,8 +121,10 @@ fn seeding_clocks(draft: &mut Draft, random: &mut Random) {
 
 /// Device events whose differences lie where the credit or the sign turns.
 fn event_clocks(draft: &mut Draft, random: &mut Random) {
+    // Few enough devices for most events to earn.
+    let devices = [random.pick(&[0, 1, 2]), random.pick(&[14, 15])];
     for _ in 0..random.between(6, 40) {
-        let device = random.pick(&[0, 1, 2, 14, 15]);
+        let device = random.pick(&devices);
         let timer = draft.keeper.timers[usize::from(device)];
         let distance = random.pick(&[0, 1, 2, 4, 8, 256, 1_024, 2_048, 4_096, 65_536, HALF, HALF]);
         // At a distance from the last clock, or from where a steady device
@@ -207,8 +210,10 @@ fn seeding_by_events(draft: &mut Draft, random: &mut Random) {
                 draft.interrupt(random, late);
             }
             1 => {
-                let now = random.pick(&[1, 2, 4, 8, 4_096]);
-                draft.device(random, i as u8 + 1, now);
+                let device = i as u8 + 1;
+                draft.introduce(random, device, draft.now);
+                let ticks = random.pick(&[1, 2, 4, 8, 4_096]);
+                draft.device(random, device, draft.now.wrapping_add(ticks));
             }
             _ => draft.credit(random, 1),
         }

@@ -9,7 +9,7 @@ use lib.Seq.{take-all}
 use Rattle.words.specs.Bytes.{wordsBytes}
 use Rattle.words.proofs.Numbers.{wordsBytes-suc}
 use Rattle.mixer.specs.Mixed.{spotOf, Mixed}
-use Rattle.mixer.proofs.Mixes.{mixed-none, mixed-then, mixed-all, taps-on, at-few}
+use Rattle.mixer.proofs.Mixes.{mixed-none, mixed-then, mixed-all, taps-on, taps-known, at-few}
 use Rattle.mixer.proofs.mixing.mix_words.Statement.{statement}
 use Rattle.mixer.proofs.mixing.mix_words.Tie as tie
 
@@ -41,5 +41,5 @@ pub mix-words-spec : {M : Type 1} → statement M
 mix-words-spec =
     tie.close
     (tie.spec Inv-loop μ-loop (λ c κs. search needs) (λ c κs. search needs) loop-holds (λ c. search needs) (λ c. search needs) (λ c. search needs)
-    (λ c κs. (refl, search (taps-on, needs))) (λ c. search needs) (λ c. search needs) loop-again (λ c κs. at-few (c .before .loop .inv .1))
+    (λ c κs. (refl, search (taps-on, taps-known, needs))) (λ c. search needs) (λ c. search needs) loop-again (λ c κs. at-few (c .before .loop .inv .1))
     (λ c. search needs) returns)

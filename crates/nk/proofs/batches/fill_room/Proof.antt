@@ -11,11 +11,11 @@ use Rattle.nk.proofs.batches.fill_room.Statement.{statement}
 use Rattle.nk.proofs.batches.fill_room.Tie as tie
 
 abbrev Inv-loop : tie.InvT-loop
-Inv-loop j at clocks₀ firsts₀ seconds₀ input₀ blocking₀ fast₀ generator₀ room₀ out₀ line₀ ledger₀ place₀ count₀ clocks firsts seconds input blocking fast generator room out line ledger place count =
-    Filling j at (keeperOf ledger₀ (timersOf clocks₀ firsts₀ seconds₀) input₀ blocking₀ fast₀ generator₀) room₀ place (keeperOf ledger (timersOf clocks firsts seconds) input blocking fast generator) count room line
+Inv-loop j at clocks₀ firsts₀ seconds₀ came₀ input₀ blocking₀ fast₀ generator₀ room₀ out₀ line₀ ledger₀ place₀ count₀ clocks firsts seconds came input blocking fast generator room out line ledger place count =
+    Filling j at (keeperOf ledger₀ (timersOf clocks₀ firsts₀ seconds₀ came₀) input₀ blocking₀ fast₀ generator₀) room₀ place (keeperOf ledger (timersOf clocks firsts seconds came) input blocking fast generator) count room line
 
 abbrev μ-loop : tie.MeasureT-loop
-μ-loop j at clocks₀ firsts₀ seconds₀ input₀ blocking₀ fast₀ generator₀ room₀ out₀ line₀ ledger₀ place₀ count₀ clocks firsts seconds input blocking fast generator room out line ledger place count =
+μ-loop j at clocks₀ firsts₀ seconds₀ came₀ input₀ blocking₀ fast₀ generator₀ room₀ out₀ line₀ ledger₀ place₀ count₀ clocks firsts seconds came input blocking fast generator room out line ledger place count =
     length j - place
 
 loop-holds : tie.Need-loop-holds Inv-loop μ-loop

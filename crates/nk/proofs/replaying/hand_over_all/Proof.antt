@@ -15,11 +15,11 @@ use Rattle.nk.proofs.replaying.hand_over_all.Statement.{statement}
 use Rattle.nk.proofs.replaying.hand_over_all.Tie as tie
 
 abbrev Inv-loop : tie.InvT-loop
-Inv-loop j done₀ clocks₀ firsts₀ seconds₀ input₀ blocking₀ fast₀ generator₀ l₀ at₀ room₀ done clocks firsts seconds input blocking fast generator l at room =
-    Told j done at (keeperOf l (timersOf clocks firsts seconds) input blocking fast generator)
+Inv-loop j done₀ clocks₀ firsts₀ seconds₀ came₀ input₀ blocking₀ fast₀ generator₀ l₀ at₀ room₀ done clocks firsts seconds came input blocking fast generator l at room =
+    Told j done at (keeperOf l (timersOf clocks firsts seconds came) input blocking fast generator)
 
 abbrev μ-loop : tie.MeasureT-loop
-μ-loop j done₀ clocks₀ firsts₀ seconds₀ input₀ blocking₀ fast₀ generator₀ l₀ at₀ room₀ done clocks firsts seconds input blocking fast generator l at room =
+μ-loop j done₀ clocks₀ firsts₀ seconds₀ came₀ input₀ blocking₀ fast₀ generator₀ l₀ at₀ room₀ done clocks firsts seconds came input blocking fast generator l at room =
     length j - at
 
 refuse-requires : tie.Need-refuse-requires Inv-loop μ-loop

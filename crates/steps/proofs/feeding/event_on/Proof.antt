@@ -1,3 +1,4 @@
+use mathlib.Core.Path.{refl}
 use mathlib.Core.List.{[]}
 use Rattle.ledger.proofs.SmallPlans.{small}
 use Rattle.keeper.specs.Calls.{deviceEvent}
@@ -26,7 +27,7 @@ feed-event-requires : tie.Need-feed-event-requires
 feed-event-requires c κs =
     let t : tie.Else1 = search in
     let d : tie.After-decide-event = search in
-    rw (c .feed-event-arg .given .0 .1) ((in-pools _ _ _ _ _ (d .decide-event .ensures) (t .if1 .left)) .input)
+    rw (c .feed-event-arg .given .0 .1) ((in-pools _ _ _ _ _ (d .decide-event .ensures) (t .if1 .left)) .input, refl)
 
 reseed-requires : tie.Need-reseed-requires
 reseed-requires c κs =

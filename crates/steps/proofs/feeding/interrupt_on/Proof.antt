@@ -1,3 +1,4 @@
+use mathlib.Core.Path.{refl}
 use mathlib.Core.List.{[]}
 use Rattle.ledger.specs.PublicCalls.{interrupt}
 use Rattle.ledger.proofs.SmallPlans.{small}
@@ -21,7 +22,7 @@ spill-requires c κs =
     let a : tie.After-spill-arg = search in
     let t : tie.Else1 = search in
     let d : tie.After-decide-interrupt = search in
-    rw (a .spill-arg .given .0 .1) ((in-pools _ _ _ _ _ (d .decide-interrupt .ensures) (t .if1 .left)) .input)
+    rw (a .spill-arg .given .0 .1) ((in-pools _ _ _ _ _ (d .decide-interrupt .ensures) (t .if1 .left)) .input, refl)
 
 reseed-requires : tie.Need-reseed-requires
 reseed-requires c κs =

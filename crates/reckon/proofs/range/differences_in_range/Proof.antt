@@ -8,8 +8,8 @@ use lib.ListN.{length, getD}
 use Rattle.ledger.specs.Range.{firstInRange, secondInRange, every}
 use Rattle.reckon.proofs.Signs.{back}
 use Rattle.reckon.proofs.Tested.{Whole, one-more, all-met}
-use Rattle.reckon.proofs.range.timers_in_range.Statement.{statement}
-use Rattle.reckon.proofs.range.timers_in_range.Tie as tie
+use Rattle.reckon.proofs.range.differences_in_range.Statement.{statement}
+use Rattle.reckon.proofs.range.differences_in_range.Tie as tie
 
 -- what was met so far and what is left give the whole
 abbrev Inv-loop : tie.InvT-loop
@@ -44,8 +44,8 @@ returns c =
     let a = s .args in
     sym (all-met 32 firstInRange secondInRange (a .firsts .now) (a .seconds .now) (l .i) (l .met) (omega arith) (omega arith)) ∙ l .inv .1
 
-pub timers-in-range-spec : {M : Type 1} → statement M
-timers-in-range-spec =
+pub differences-in-range-spec : {M : Type 1} → statement M
+differences-in-range-spec =
     tie.close
     (tie.spec
     Inv-loop
