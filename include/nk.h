@@ -116,7 +116,7 @@ enum {
     NK_GENERATOR_WORDS = 16,
     NK_START_LENGTH = 48,
     NK_LENGTH_MOST = 4096, /* of a write, a seed or a read */
-    NK_STACK_MOST = 1024   /* bytes of stack that a call may use */
+    NK_STACK_MOST = 768    /* bytes of stack that a call may use */
 };
 
 /* Where a pool's next byte goes: its position and its rotation. */

@@ -3,7 +3,8 @@
  * several situations, the one with the longest way among them, and the most counts. Bytes that a function sets aside and never writes
  * are not seen.
  *
- * Fails where a call uses more than NK_STACK_MOST on x86-64; on another processor the table is all there is. */
+ * Fails where a call uses more than its limit, or than NK_STACK_MOST, on x86-64; on another processor the table is all there is. A call's
+ * limit is what it used when it was last set, with the kit that README names, and 32 bytes. */
 #define _XOPEN_SOURCE 700
 #include <stdint.h>
 #include <stdio.h>
@@ -54,34 +55,35 @@ static void damaged(void) { keeper.seconds[15] = INT64_MAX; answer = nk_blocking
 
 struct situation {
     const char *name; /* null: one more situation of the call above */
+    size_t limit;     /* of the call */
     void (*call)(void);
     uint32_t number;
     int hashes; /* the situation is one where a pool is extracted from */
 };
 
 static const struct situation situations[] = {
-    {"nk_make", make, NK_DONE, 0},
-    {NULL, make_refused, NK_START_NOT_48, 0},
-    {"nk_event", event, NK_DONE, 0},
-    {NULL, event_of_new_device, NK_DONE, 0},
-    {NULL, event_seeds, NK_DONE, 1},
-    {NULL, event_refused, NK_NO_SUCH_DEVICE, 0},
-    {"nk_interrupt", interrupt, NK_DONE, 0},
-    {NULL, interrupt_spills, NK_DONE, 0},
-    {NULL, interrupt_seeds, NK_DONE, 1},
-    {"nk_write", write_some, NK_DONE, 0},
-    {NULL, write_refused, NK_TOO_LONG, 0},
-    {"nk_seed", seed, NK_DONE, 0},
-    {NULL, seed_seeds, NK_DONE, 1},
-    {"nk_read", read_short, NK_DONE, 0},
-    {NULL, read_long, NK_DONE, 0},
-    {NULL, read_reseeds, NK_DONE, 1},
-    {NULL, read_refused, NK_UNSEEDED, 0},
-    {"nk_blocking_read", blocking_short, NK_DONE, 1},
-    {NULL, blocking_transfers, NK_DONE, 1},
-    {NULL, blocking_long, NK_DONE, 1},
-    {NULL, blocking_refused, NK_WOULD_BLOCK, 0},
-    {NULL, damaged, NK_OUT_OF_RANGE, 0},
+    {"nk_make", 160, make, NK_DONE, 0},
+    {NULL, 0, make_refused, NK_START_NOT_48, 0},
+    {"nk_event", 464, event, NK_DONE, 0},
+    {NULL, 0, event_of_new_device, NK_DONE, 0},
+    {NULL, 0, event_seeds, NK_DONE, 1},
+    {NULL, 0, event_refused, NK_NO_SUCH_DEVICE, 0},
+    {"nk_interrupt", 464, interrupt, NK_DONE, 0},
+    {NULL, 0, interrupt_spills, NK_DONE, 0},
+    {NULL, 0, interrupt_seeds, NK_DONE, 1},
+    {"nk_write", 216, write_some, NK_DONE, 0},
+    {NULL, 0, write_refused, NK_TOO_LONG, 0},
+    {"nk_seed", 496, seed, NK_DONE, 0},
+    {NULL, 0, seed_seeds, NK_DONE, 1},
+    {"nk_read", 528, read_short, NK_DONE, 0},
+    {NULL, 0, read_long, NK_DONE, 0},
+    {NULL, 0, read_reseeds, NK_DONE, 1},
+    {NULL, 0, read_refused, NK_UNSEEDED, 0},
+    {"nk_blocking_read", 592, blocking_short, NK_DONE, 1},
+    {NULL, 0, blocking_transfers, NK_DONE, 1},
+    {NULL, 0, blocking_long, NK_DONE, 1},
+    {NULL, 0, blocking_refused, NK_WOULD_BLOCK, 0},
+    {NULL, 0, damaged, NK_OUT_OF_RANGE, 0},
 };
 
 static void ready(void) {
@@ -121,10 +123,10 @@ int main(void) {
 #endif
     size_t none = used(empty), count = sizeof situations / sizeof *situations;
     unsigned passed = 0, failed = 0;
-    printf("%-20s %s\n", "call", "bytes of stack");
+    printf("%-20s %s  %s\n", "call", "bytes of stack", "limit");
     for (size_t i = 0; i < count;) {
         const char *name = situations[i].name;
-        size_t most = 0;
+        size_t most = 0, limit = situations[i].limit < NK_STACK_MOST ? situations[i].limit : NK_STACK_MOST;
         int right = 1;
         do {
             size_t u = used(situations[i].call);
@@ -132,12 +134,12 @@ int main(void) {
             if (u > most) most = u;
             right &= answer.number == situations[i].number && (answer.compressions > 0) == situations[i].hashes;
         } while (++i < count && !situations[i].name);
-        int good = right && (!held || most <= NK_STACK_MOST);
+        int good = right && (!held || most <= limit);
         if (good) passed++; else failed++;
-        printf("%-20s %14zu%s%s\n", name, most, right ? "" : "  FAILED: another answer than expected",
-            most > NK_STACK_MOST && held ? "  FAILED: over the limit" : "");
+        printf("%-20s %14zu  %5zu%s%s\n", name, most, limit, right ? "" : "  FAILED: another answer than expected",
+            most > limit && held ? "  FAILED: over the limit" : "");
     }
-    if (held) printf("limit %d bytes; ", NK_STACK_MOST); else printf("the limit of %d bytes is for x86-64; ", NK_STACK_MOST);
+    if (!held) printf("the limits are for x86-64; ");
     printf("a call that does nothing used %zu, and that is subtracted\n", none);
     printf("%u passed, %u failed\n", passed, failed);
     return failed ? 1 : 0;

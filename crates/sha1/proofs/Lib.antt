@@ -1,2 +1,4 @@
 pub mod Schedule
+pub mod Held
+pub mod Fours
 pub mod Lengths

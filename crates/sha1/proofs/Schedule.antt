@@ -1,34 +1,40 @@
--- The message schedule as it grows in an array, and the steps one after another.
-use mathlib.Core.Path.{_≡_}
-use mathlib.Core.List.{List}
+-- The words of the message schedule, read off the whole of it.
+use mathlib.Core.Path.{_≡_, refl, sym, _∙_}
+use mathlib.Core.List.{List, [], _∷_, _++_}
+use mathlib.Core.Logic.{⊎-elim}
 use Prim.Native.Nat.{ℕ, zero, suc, _+_, _-_, _<_, _≤_}
+use native.Mathlib.Nat.{eq-or-lt-of-le}
 use native.Mathlib.Omega.{arith}
-use native.Mathlib.Nat.{add-zero, add-suc, add-assoc}
-use lib.ListN.{length, take, drop, set}
-use lib.Seq.{take-suc-set, getD-take, getD-drop}
-use Rattle.sha1.specs.Sha1.{nextWord, schedule, run}
+use lib.ListN.{length, getD, length-append, List·getD-append}
+use lib.Seq.{getD-append-seam}
+use Rattle.sha1.specs.Sha1.{nextWord, schedule}
+
+length-schedule : (m : List ℕ) (n : ℕ) → length (schedule m n) ≡ length m + n
+unfolding schedule
+length-schedule m zero = omega arith
+length-schedule m (suc n) = simp length-append (omega (arith, length-schedule m n))
+
+-- it begins with the block
+pub front : (m : List ℕ) (n k : ℕ) → k < length m → getD (schedule m n) k 0 ≡ getD m k 0
+unfolding schedule
+front m zero k h = refl
+front m (suc n) k h = List·getD-append (schedule m n) _ 0 k (omega (arith, length-schedule m n)) ∙ front m n k h
 
 -- W_t looks only at words before it
-next-take : (w : List ℕ) (t : ℕ) → 16 ≤ t → nextWord (take t w) t ≡ nextWord w t
+next-append : (w l : List ℕ) (t : ℕ) → 16 ≤ t → t ≤ length w → nextWord (w ++ l) t ≡ nextWord w t
 unfolding nextWord
-next-take w t h =
-    rw (getD-take t w (t - 3) 0 (omega arith), getD-take t w (t - 8) 0 (omega arith), getD-take t w (t - 14) 0 (omega arith), getD-take t w (t - 16) 0 (omega arith))
+next-append w l t h k =
+    rw (List·getD-append w l 0 (t - 3) (omega arith), List·getD-append w l 0 (t - 8) (omega arith), List·getD-append w l 0 (t - 14) (omega arith), List·getD-append w l 0 (t - 16) (omega arith))
 
--- one more word
-pub grow : (m w : List ℕ) (t : ℕ) → 16 ≤ t → t < length w → take t w ≡ schedule m (t - 16) → take (suc t) (set w t (nextWord w t)) ≡ schedule m (suc t - 16)
+-- each word past the block is W_t of the schedule
+pub word : (m : List ℕ) (n t : ℕ) → length m ≡ 16 → 16 ≤ t → t < 16 + n → getD (schedule m n) t 0 ≡ nextWord (schedule m n) t
 unfolding schedule
-grow m w t h k e =
-    let i : suc t - 16 ≡ suc (t - 16) = omega arith in
-    let j : 16 + (t - 16) ≡ t = omega arith in
-    rw (i, j, ← e, next-take w t h) (take-suc-set w t (nextWord w t) k)
-
--- steps one after another
-pub run-add : (t : ℕ) (w : List ℕ) (a b : ℕ) (s : List ℕ) → run t w (a + b) s ≡ run (t + a) (drop a w) b (run t w a s)
-unfolding run
-run-add t w a zero s = rw (add-zero a)
-run-add t w a (suc b) s = rw (add-suc a b, run-add t w a b s, getD-drop a w b 0, add-assoc t a b)
-
--- the 80 steps by twenties
-pub by-twenty : (w h s₀ s₁ s₂ s₃ : List ℕ) → s₀ ≡ run 0 w 20 h → s₁ ≡ run 20 (drop 20 w) 20 s₀ → s₂ ≡ run 40 (drop 40 w) 20 s₁ → s₃ ≡ run 60 (drop 60 w) 20 s₂
-    → s₃ ≡ run 0 w 80 h
-by-twenty w h s₀ s₁ s₂ s₃ a b c d = rw (d, c, b, a, run-add 0 w 60 20 h, run-add 0 w 40 20 h, run-add 0 w 20 20 h)
+word m zero t e h k = absurd (omega arith)
+word m (suc n) t e h k =
+    let w = schedule m n in
+    let l : length w ≡ 16 + n = omega (arith, length-schedule m n) in
+    let x = nextWord w (16 + n) ∷ [] in
+    ⊎-elim
+    (λ (eq : t ≡ 16 + n). rw (eq, next-append w x (16 + n) (omega arith) (omega arith), ← l) (getD-append-seam w (nextWord w (length w)) [] 0))
+    (λ (lt : t < 16 + n). List·getD-append w x 0 t (omega arith) ∙ word m n t e h lt ∙ sym (next-append w x t h (omega arith)))
+    (eq-or-lt-of-le (omega arith))

@@ -2,8 +2,9 @@
 ghost use mathlib.Core.Path.{_≡_};
 ghost use Rattle.words.specs.Words.{addWords};
 ghost use Rattle.sha1.specs.Sha1.{initialHash, compressed};
-use crate::message::schedule;
-use crate::steps::twenty;
+use crate::ring::next_four;
+use crate::steps::four;
+use crate::steps::of_twenty;
 use std::num::wrapping_add_u32;
 
 // The initial hash value.
@@ -31,14 +32,23 @@ fn add_words(mut t: [u32; 5], s: [u32; 5]) -> [u32; 5]
     t
 }
 
-// The hash value after the block m, from the hash value h.
+// The hash value after the block m, from the hash value h. Before step 64 the ring has the last of the words, and from there on it is left as it is.
 pub fn compress(h: [u32; 5], m: [u32; 16]) -> [u32; 5]
     ensures { λ r. ⌜ r ≡ compressed h m ⌝ }
 {
-    let w = schedule(m);
-    let s0 = twenty(h, 0, &w);
-    let s1 = twenty(s0, 1, &w);
-    let s2 = twenty(s1, 2, &w);
-    let s3 = twenty(s2, 3, &w);
-    add_words(s3, h)
+    let mut w = m;
+    let mut s = h;
+    let mut t: usize = 0;
+    while t < 64 {
+        let r = four(s, t, &w);
+        s = r;
+        next_four(&mut w, t);
+        t += 4;
+    }
+    while t < 80 {
+        let r = of_twenty(s, 3, t, &w);
+        s = r;
+        t += 4;
+    }
+    add_words(s, h)
 }
