@@ -3,9 +3,10 @@
 
 use std::fs;
 use std::io::{self, Write};
-use std::path::{Path, PathBuf};
+use std::path::Path;
 use std::process::{Command, Stdio};
 
+use crate::folder::Folder;
 use crate::journal::{self, Record, Records, HEADER};
 use crate::maker;
 use crate::transcript::transcript;
@@ -26,27 +27,15 @@ pub trait Program {
 /// A program outside: a command that is handed file names.
 pub struct Outside {
     command: Vec<String>,
+    /// For the journals of one batch.
     folder: Folder,
-}
-
-/// A folder for the journals of one batch, removed at the end.
-struct Folder(PathBuf);
-
-impl Drop for Folder {
-    fn drop(&mut self) {
-        // Nothing is lost if it stays.
-        let _ = fs::remove_dir_all(&self.0);
-    }
 }
 
 impl Outside {
     pub fn new(command: Vec<String>) -> io::Result<Outside> {
-        let name = format!("oracle-compare-{}", std::process::id());
-        let path = std::env::temp_dir().join(name);
-        fs::create_dir(&path)?;
         Ok(Outside {
             command,
-            folder: Folder(path),
+            folder: Folder::new("oracle-compare")?,
         })
     }
 }
@@ -55,7 +44,7 @@ impl Program for Outside {
     fn run(&mut self, journals: &[Vec<u8>]) -> io::Result<Vec<u8>> {
         let mut files = Vec::new();
         for (i, journal) in journals.iter().enumerate() {
-            let file = self.folder.0.join(format!("{i:04}.nkj"));
+            let file = self.folder.path().join(format!("{i:04}.nkj"));
             fs::write(&file, journal)?;
             files.push(file);
         }
@@ -193,8 +182,8 @@ fn report_shrunk(
     Ok(())
 }
 
-/// The first line in which two transcripts differ, from both.
-fn first_difference(expected: &str, found: &[u8]) -> String {
+/// The first line in which two texts differ, from both.
+pub fn first_difference(expected: &str, found: &[u8]) -> String {
     let found = String::from_utf8_lossy(found);
     let mut ours = expected.split_inclusive('\n');
     let mut theirs = found.split_inclusive('\n');

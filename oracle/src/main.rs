@@ -5,17 +5,23 @@ mod calls;
 mod cipher;
 mod compare;
 mod credits;
+mod folder;
 mod hash;
+mod index;
 mod journal;
 mod keeper;
+mod lookups;
 mod maker;
 mod pick;
 mod pools;
 mod random;
+mod replace;
 mod situations;
+mod summaries;
 mod tally;
 mod transcript;
 mod watch;
+mod words;
 
 use std::fs;
 use std::io::{self, BufWriter, Write};
@@ -23,6 +29,7 @@ use std::path::{Path, PathBuf};
 use std::process::ExitCode;
 
 use pick::Picked;
+use words::Order;
 
 const USAGE: &str = "\
 usage: oracle transcript FILE..
@@ -32,6 +39,11 @@ usage: oracle transcript FILE..
        oracle calls --seed S --count N
        oracle tally --seed S --count N
        oracle pick --seed S --count N --first F DIR
+       oracle index JOURNAL INDEX
+       oracle append JOURNAL INDEX MORE
+       oracle look JOURNAL INDEX N..
+       oracle summaries --seed S --count N [--keep DIR] --program COMMAND..
+       oracle lookups --seed S --count N
 ";
 
 /// The words of a command line after the command's name.
@@ -107,6 +119,9 @@ fn main() -> ExitCode {
 /// Carries out one command; true where all was well.
 fn run(words: &[String], out: &mut dyn Write) -> Result<bool, String> {
     let (command, rest) = words.split_first().ok_or(USAGE)?;
+    if Order::begins_with(command) {
+        return carry_out(&Order::read(words)?, out);
+    }
     let options = Options::read(rest)?;
     let text = |e: io::Error| e.to_string();
     match command.as_str() {
@@ -142,8 +157,25 @@ fn run(words: &[String], out: &mut dyn Write) -> Result<bool, String> {
             let differences = compare::compare(&settings, &mut program, out).map_err(text)?;
             Ok(differences == 0)
         }
+        "summaries" => {
+            if options.program.is_empty() {
+                return Err(USAGE.to_owned());
+            }
+            let settings = summaries::Settings {
+                seed: options.seed,
+                count: options.count,
+                keep: options.keep.as_deref(),
+            };
+            let mut program = summaries::Outside::new(options.program).map_err(text)?;
+            let differences = summaries::summaries(&settings, &mut program, out).map_err(text)?;
+            Ok(differences == 0)
+        }
         "calls" => {
             calls::calls(options.seed, options.count, out).map_err(text)?;
+            Ok(true)
+        }
+        "lookups" => {
+            lookups::lookups(options.seed, options.count, out).map_err(text)?;
             Ok(true)
         }
         "tally" => {
@@ -162,6 +194,21 @@ fn run(words: &[String], out: &mut dyn Write) -> Result<bool, String> {
 
 fn read(file: &str) -> Result<Vec<u8>, String> {
     fs::read(file).map_err(|e| format!("{file}: {e}"))
+}
+
+/// Carries out a word on its files; true where it was not refused. What it
+/// writes is written before a line of it is printed.
+fn carry_out(order: &Order, out: &mut dyn Write) -> Result<bool, String> {
+    let given: Result<Vec<Vec<u8>>, String> = order.given().iter().map(|f| read(f)).collect();
+    let done = order.carry_out(&given?);
+    let written: Vec<(&Path, &[u8])> = done
+        .written
+        .iter()
+        .map(|(which, bytes)| (Path::new(&order.files[*which]), bytes.as_slice()))
+        .collect();
+    replace::replace(&written).map_err(|e| e.to_string())?;
+    write!(out, "{}", done.text).map_err(|e| e.to_string())?;
+    Ok(done.number == keeper::DONE)
 }
 
 fn make(options: &Options, folder: &Path) -> io::Result<()> {

@@ -14,6 +14,7 @@ mod kinds;
 mod mixes;
 mod new_devices;
 mod reseeds;
+pub mod sized;
 mod spills;
 mod thresholds;
 mod zero_seeds;
@@ -73,7 +74,7 @@ const STEPS: [Steps; 9] = [
 ];
 
 /// Whose turn it is, and how many turns it has had.
-fn in_turn<T: Copy + PartialEq>(order: &[T], turn: u64) -> (T, u64) {
+pub fn in_turn<T: Copy + PartialEq>(order: &[T], turn: u64) -> (T, u64) {
     let rounds = turn / order.len() as u64;
     let place = (turn % order.len() as u64) as usize;
     let had = |order: &[T], who: T| order.iter().filter(|other| **other == who).count() as u64;

@@ -44,7 +44,7 @@ impl Shown {
 
 /// What of a keeper the situations turn on. A fresh one has zero everywhere.
 #[derive(Clone, Copy, Default)]
-struct Fields {
+pub struct Fields {
     seeded: bool,
     seeding_clock: u32,
     count: u32,

@@ -9,6 +9,7 @@ pub mod Laws
 pub mod CutWalks
 pub mod CutJournals
 pub mod Appended
+pub mod Moved
 pub mod Written
 pub mod Said
 pub mod Parts

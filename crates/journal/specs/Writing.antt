@@ -1,5 +1,5 @@
 -- A record as bytes, and records one after another.
-use Prim.Native.Nat.{ℕ, _-_, _*_, _^_, _≤_, _<_}
+use Prim.Native.Nat.{ℕ, _+_, _-_, _*_, _^_, _≤_, _<_}
 use mathlib.Core.Path.{_≡_}
 use mathlib.Core.List.{List, [], _∷_, _++_, map}
 use lib.ListN.{length, take, drop}
@@ -61,3 +61,10 @@ AllWritable v (s ∷ ss) = Writable v (s .what) (s .carried) × AllWritable v ss
 -- ---- one walk, and another that begins where it stops: what a journal has that is written on
 abbrev pub joined : Walk → Walk → Walk
 joined a b = record { entries = a .entries ++ b .entries; stop = b .stop; number = b .number }
+
+-- ---- the same records so many bytes further on: what bytes have that stand behind others
+unfoldable pub further : ℕ → Entry → Entry
+further k e = record { place = k + e .place; what = e .what; next = k + e .next }
+
+abbrev pub furtherOn : ℕ → Walk → Walk
+furtherOn k w = record { entries = map (further k) (w .entries); stop = k + w .stop; number = w .number }

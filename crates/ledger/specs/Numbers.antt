@@ -40,5 +40,11 @@ unknownKind = 11
 abbrev pub journalTooLarge : ℕ
 journalTooLarge = 12
 
+abbrev pub indexDiffers : ℕ
+indexDiffers = 16
+
 abbrev pub outOfRange : ℕ
 outOfRange = 17
+
+abbrev pub noSuchRecord : ℕ
+noSuchRecord = 18

@@ -26,5 +26,11 @@ pub const UNKNOWN_KIND: u32 = 11;
 
 pub const JOURNAL_TOO_LARGE: u32 = 12;
 
-// A record that is out of range.
+// An index that is not its journal's.
+pub const INDEX_DIFFERS: u32 = 16;
+
+// A keeper's record that is out of range.
 pub const OUT_OF_RANGE: u32 = 17;
+
+// A record number past a journal's last record.
+pub const NO_SUCH_RECORD: u32 = 18;

@@ -1,4 +1,3 @@
 pub mod Filling
-pub mod Laying
 pub mod Texts
 pub mod Turning

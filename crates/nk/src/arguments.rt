@@ -1,20 +1,20 @@
 // What the program's words ask for, and the status of having done it.
-use crate::files::MOST;
-use crate::files::load;
-use crate::messages::about;
 use crate::messages::help;
-use crate::messages::name_too_long;
 use crate::messages::no_file;
-use crate::messages::opening;
 use crate::messages::unknown_word;
-use crate::output::Sent;
 use crate::replaying::replay;
-use crate::status::FAILED;
-use crate::status::GOOD;
-use crate::status::judge;
-use crate::status::tell;
-use crate::status::worse;
 use check::same;
+use lab::FAILED;
+use lab::GOOD;
+use lab::MOST;
+use lab::Sent;
+use lab::append;
+use lab::bring;
+use lab::index;
+use lab::judge;
+use lab::look;
+use lab::tell;
+use lab::worse;
 
 // What came of a file: its status, and whether standard output takes more.
 struct Done {
@@ -51,17 +51,8 @@ fn replay_or_judge(j: &[u8], listened: bool) -> Done {
 
 // The journal that an argument names. A file that cannot be read keeps no other from its turn.
 fn replay_argument(i: usize, listened: bool) -> Done {
-    let mut said = opening();
-    let n = about(i, &mut said);
-    if os::errno() != 0 {
-        name_too_long();
-        return Done {
-            status: FAILED,
-            listened: listened,
-        };
-    }
     let mut room = [0u8; MOST];
-    let f = load(&said[..n], &mut room);
+    let f = bring(i, &mut room);
     if !f.whole {
         return Done {
             status: FAILED,
@@ -94,6 +85,15 @@ fn replay_all(first: usize, count: usize) -> u32 {
 fn obey_word(word: &[u8], first: usize, count: usize) -> u32 {
     if same(word, b"replay") {
         return replay_all(first, count);
+    }
+    if same(word, b"index") {
+        return index(first, count);
+    }
+    if same(word, b"append") {
+        return append(first, count);
+    }
+    if same(word, b"look") {
+        return look(first, count);
     }
     if same(word, b"--help") {
         return help();

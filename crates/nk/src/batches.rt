@@ -1,7 +1,7 @@
 // A journal run for as many records as a room has place for the lines of.
 ghost use Rattle.steps.specs.Promise.{lent};
 ghost use Rattle.nk.specs.Batches.{batchOf, Laid};
-use crate::output::lay;
+use lab::lay;
 use ledger::Ledger;
 use ledger::sizes::BLOCKING_WORDS;
 use ledger::sizes::DEVICES;

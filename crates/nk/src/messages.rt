@@ -1,42 +1,22 @@
-// What is said to a person: help on standard output, one line on standard error for what is wrong.
-ghost use mathlib.Core.Path.{_≡_};
-ghost use Prim.Native.Nat.{_≤_};
-ghost use lib.ListN.{length};
-use crate::output::Sent;
-use crate::output::write;
-use crate::status::FAILED;
-use crate::status::GOOD;
-use libc::STDERR_FILENO;
+// What is said to a person: what the program can do, and that a word is none of its own.
+use lab::FAILED;
+use lab::GOOD;
+use lab::Sent;
+use lab::complain;
+use lab::write;
 use libc::STDOUT_FILENO;
 
 fn tell(line: &[u8]) {
     io::write_all(STDOUT_FILENO, line);
 }
 
-fn complain(text: &[u8]) {
-    io::write_all(STDERR_FILENO, text);
-}
-
 // What the program can do, and the status of saying it: an output that took nothing is told of at the last line.
 pub fn help() -> u32 {
-    tell(b"nk: replays journals of the noise keeper\n\n");
-    tell(b"    nk replay FILE..    write the transcript of each journal to standard output\n");
-    tell(b"    nk --help           say this\n\n");
-    tell(
-        b"A line of a transcript is a record's answer, bytes delivered, input count, blocking count,\n",
-    );
-    tell(
-        b"ChaCha20 blocks and compressions, then the bytes in hexadecimal. The last line is `end 0`, or\n",
-    );
-    tell(
-        b"`end` and why the replay ended early: 3 a length over 4,096, 8 not a journal, 9 another version,\n",
-    );
-    tell(b"10 cut short, 11 an unknown kind of record, 12 more than 61,440 bytes.\n\n");
-    tell(
-        b"Exit status of ./nk: 0 where each journal ended with 0, 1 where one ended with another number, 2\n",
-    );
+    tell(b"nk: journals of the noise keeper, replayed, indexed, written on and looked up in\n\n");
+    words();
+    numbers();
     let sent = write(
-        b"where one could not be read, standard output not be written, or the words make no sense.\n",
+        b"where a file could not be read or written, or the words make no sense; the worst of all files counts.\n",
     );
     match sent {
         Sent::Failed => FAILED,
@@ -44,34 +24,56 @@ pub fn help() -> u32 {
     }
 }
 
-pub fn no_file() {
-    complain(b"nk: replay wants the name of a journal; nk --help says what there is\n");
+fn words() {
+    tell(
+        b"    nk replay JOURNAL..            write the transcript of each journal to standard output\n",
+    );
+    tell(
+        b"    nk index JOURNAL INDEX         write the index of a journal to the file INDEX, and print its sums\n",
+    );
+    tell(
+        b"    nk append JOURNAL INDEX MORE   append the records in the file MORE to a journal, and to its index\n",
+    );
+    tell(
+        b"    nk look JOURNAL INDEX N..      print records by their numbers, up to 64, counted from 0\n",
+    );
+    tell(b"    nk --help                      say this\n\n");
+    tell(
+        b"A line of a transcript is a record's answer, bytes delivered, input count, blocking count,\n",
+    );
+    tell(
+        b"ChaCha20 blocks and compressions, then the bytes in hexadecimal. A line of `look` is the number,\n",
+    );
+    tell(
+        b"0, the byte place, the kind and the fields of the record, then its bytes in hexadecimal; or the\n",
+    );
+    tell(b"number and 18, past the last record.\n\n");
 }
 
-pub fn name_too_long() {
-    os::fail(b"nk: a file's name");
+fn numbers() {
+    tell(
+        b"The last line is `end 0`, or `end` and what was wrong: 3 a length over 4,096 (of a write or a seed) or\n",
+    );
+    tell(
+        b"a 65th record number, 8 not a journal, 9 another version, 10 cut short, 11 an unknown kind of record,\n",
+    );
+    tell(
+        b"12 more than 61,440 bytes, 16 an index that is not the journal's. Then no file was touched. A file is\n",
+    );
+    tell(
+        b"written beside its place, with .new behind its name, and renamed: a crash leaves the old one or the new.\n\n",
+    );
+    tell(
+        b"Exit status of ./nk: 0 where it ended with 0, 1 where a journal ended with another number, 2\n",
+    );
+}
+
+pub fn no_file() {
+    complain(b"nk: replay wants the name of a journal; nk --help says what there is\n");
 }
 
 pub fn unknown_word(word: &[u8]) {
     complain(b"nk: '");
     complain(word);
     complain(b"' is no command; nk --help says what there is\n");
-}
-
-// `nk: `, and room behind it for a file's name.
-pub fn opening() -> [u8; 4100] {
-    let mut text = [0u8; 4100];
-    text[0] = b'n';
-    text[1] = b'k';
-    text[2] = b':';
-    text[3] = b' ';
-    text
-}
-
-// Lays the name of the file that argument i is behind `nk: `: the start of a message about that file. Answers how long it is.
-pub fn about(i: usize, said: &mut [u8]) -> usize
-    requires { ⌜ length (now said) ≡ 4100 ⌝ }
-    ensures { λ r. ⌜ (4 ≤ r) × (r ≤ length (now (said .exit))) ⌝ }
-{
-    4 + os::arg(i, &mut said[4..])
 }

@@ -9,9 +9,9 @@
 // digits, five spaces between them, one before the bytes, two digits for each byte and the newline; the last line asks for 15. A room that
 // is shorter is left as it was, and the answer is 0. `LONGEST_LINE` is enough for the most bytes that a record delivers.
 //
-// `text` has numbers and bytes as text, `lines` the two kinds of lines.
+// `text` has numbers and bytes as text, for other texts too; `lines` has the two kinds of lines.
 pub mod lines;
-mod text;
+pub mod text;
 
 pub use lines::LONGEST_END;
 pub use lines::LONGEST_LINE;

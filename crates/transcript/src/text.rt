@@ -7,7 +7,7 @@ ghost use lib.ListN.{length};
 ghost use Rattle.transcript.specs.Text.{Put, digits, decimalOf, wordOf, glyphOf, hexOf, tailOf};
 
 // n in decimal, `most` digits at most, at a place; answers the place after it.
-fn decimal(n: u32, most: usize, room: &mut [u8], at: usize) -> usize
+fn decimal(n: u64, most: usize, room: &mut [u8], at: usize) -> usize
     requires { ⌜ (n < 10 ^ most) × (0 < most) ⌝ }
     requires { ⌜ at + most ≤ length (now room) ⌝ }
     ensures { λ r. ⌜ Put (now (room .entry)) (now (room .exit)) at (digits most n) r ⌝ }
@@ -27,7 +27,16 @@ pub fn number(n: u32, room: &mut [u8], at: usize) -> usize
     ensures { λ r. ⌜ Put (now (room .entry)) (now (room .exit)) at (decimalOf n) r ⌝ }
     ensures { λ r. ⌜ r ≤ at + 10 ⌝ }
 {
-    decimal(n, 10, room, at)
+    decimal(n as u64, 10, room, at)
+}
+
+// The same of a larger number: one below 2^64 has twenty digits at most.
+pub fn large(n: u64, room: &mut [u8], at: usize) -> usize
+    requires { ⌜ at + 20 ≤ length (now room) ⌝ }
+    ensures { λ r. ⌜ Put (now (room .entry)) (now (room .exit)) at (digits 20 n) r ⌝ }
+    ensures { λ r. ⌜ r ≤ at + 20 ⌝ }
+{
+    decimal(n, 20, room, at)
 }
 
 // n in decimal and a space.

@@ -220,7 +220,11 @@ mod tests {
                 let events = &events[..count];
                 assert_eq!(values(events, NewDeviceEarnsNothing), new);
                 assert_eq!(values(events, KnownDeviceEarns), known);
-                let from_the_fourth: &[u32] = if count < 4 { &[] } else { &[device.into()] };
+                let from_the_fourth = if count < 4 {
+                    vec![]
+                } else {
+                    vec![device.into()]
+                };
                 assert_eq!(values(events, EarnsFromTheFourthOn), from_the_fourth);
             }
             assert_eq!(values(&events, FirstClockEarnsNothing), [4]);
@@ -265,7 +269,11 @@ mod tests {
                 _ => FIVE[place - 1] + 1,
             };
             events.insert(place, event_of(0, 9_999, value));
-            let expected: &[u32] = if place < 3 { &[place as u32] } else { &[] };
+            let expected = if place < 3 {
+                vec![place as u32]
+            } else {
+                vec![]
+            };
             assert_eq!(values(&events, Answer(7)), [0]);
             assert_eq!(values(&events, RepeatedDoesNotCount), expected);
             // On its own it is no third event, nor is that of another device.

@@ -1,0 +1,17 @@
+pub mod Records
+pub mod Marking
+pub mod Going
+pub mod Tables
+pub mod Updating
+pub mod Alike
+pub mod Working
+pub mod Six
+pub mod Longer
+pub mod Passing
+pub mod Filed
+pub mod Laid
+pub mod Refusing
+pub mod Finding
+pub mod Counting
+pub mod Kept
+pub mod Cases
