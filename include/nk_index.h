@@ -21,15 +21,18 @@
 #include <stdint.h>
 
 #ifdef __cplusplus
+#define NK_INDEX_HOLDS(fact) static_assert(fact, #fact)
 extern "C" {
+#else
+#define NK_INDEX_HOLDS(fact) _Static_assert(fact, #fact)
 #endif
 
 enum {
-    NK_ROOM = 61440,         /* the bytes of a room */
-    NK_PLACES = 138,         /* the most places of an index */
-    NK_LOOK_MOST = 64,       /* the most record numbers of one nk_look */
-    NK_INDEX_DIFFERS = 16,
-    NK_NO_SUCH_RECORD = 18,
+    NK_ROOM = 61440,       /* the bytes of a room */
+    NK_PLACES = 138,       /* the most places of an index */
+    NK_LOOK_MOST = 64,     /* the most record numbers of one nk_look */
+    NK_INDEX_DIFFERS = 16, /* the index is not the journal's */
+    NK_NO_SUCH_RECORD = 18 /* past the last record */
 };
 
 struct nk_index {
@@ -50,6 +53,16 @@ struct nk_appended {
     size_t len;
     struct nk_index index;
 };
+
+/* The archive is for 64 bits. */
+NK_INDEX_HOLDS(sizeof(size_t) == 8);
+NK_INDEX_HOLDS(sizeof(void *) == 8);
+NK_INDEX_HOLDS(sizeof(struct nk_index) == 580);
+NK_INDEX_HOLDS(offsetof(struct nk_index, kinds) == 552);
+NK_INDEX_HOLDS(offsetof(struct nk_index, reads) == 576);
+NK_INDEX_HOLDS(sizeof(struct nk_fresh) == 584);
+NK_INDEX_HOLDS(offsetof(struct nk_appended, index) == 16);
+NK_INDEX_HOLDS(sizeof(struct nk_appended) == 600);
 
 /* The index of a journal, worked out afresh. */
 struct nk_fresh nk_fresh_index(const uint8_t room[NK_ROOM], size_t len);

@@ -4,6 +4,7 @@ ghost use lib.ListN.{length};
 ghost use Rattle.io.specs.Counts.{Counts};
 use crate::messages::about;
 use crate::messages::name_too_long;
+use crate::messages::no_name;
 use crate::messages::opening;
 use journal::LARGEST;
 
@@ -95,4 +96,19 @@ pub fn glimpse(i: usize, room: &mut [u8]) -> usize
     let f = fill(fd, room);
     libc::close(fd);
     f.count
+}
+
+// Whether argument i can be a file's name. One that is too long or empty is told.
+pub fn is_name(i: usize) -> bool {
+    let mut said = opening();
+    let n = about(i, &mut said);
+    if os::errno() != 0 {
+        name_too_long();
+        return false;
+    }
+    if n == 4 {
+        no_name();
+        return false;
+    }
+    true
 }

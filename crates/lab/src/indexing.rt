@@ -2,6 +2,7 @@
 use crate::files::MOST;
 use crate::files::bring;
 use crate::files::glimpse;
+use crate::files::is_name;
 use crate::messages::not_the_journal;
 use crate::messages::wants;
 use crate::output::Sent;
@@ -59,6 +60,9 @@ pub fn index(first: usize, count: usize) -> u32 {
         wants(
             b"nk: index wants a journal and the name of an index; nk --help says what there is\n",
         );
+        return FAILED;
+    }
+    if !is_name(first + 1) {
         return FAILED;
     }
     let mut room = [0u8; MOST];

@@ -24,6 +24,10 @@ pub fn no_number(word: &[u8]) {
     complain(b"' is no record number\n");
 }
 
+pub fn no_name() {
+    complain(b"nk: an empty word is no file's name\n");
+}
+
 pub fn name_too_long() {
     os::fail(b"nk: a file's name");
 }
