@@ -52,8 +52,11 @@ pub fn make_beside(i: usize, letters: &[u8; 4], bytes: &[u8]) -> bool {
         os::fail(&said[..n]);
     }
     let closed = libc::close(fd) == 0;
-    if whole && closed {
-        return true;
+    if whole {
+        if closed {
+            return true;
+        }
+        os::fail(&said[..n]);
     }
     os::unlink(&said[4..n]);
     false
