@@ -9,8 +9,9 @@
 #include <string.h>
 
 #include "nk_index.h"
+#include "trace_lines.h"
 
-enum { ROOM = 61440, FOUND = 64, PLACES = 138, KINDS = 6, GUARD = 64, MOST = 1 << 17, MOST_NUMBERS = 1 << 10, LINE = 1 << 19 };
+enum { ROOM = 61440, FOUND = 64, PLACES = 138, KINDS = 6, GUARD = 64, MOST = 1 << 17, MOST_NUMBERS = 1 << 10 };
 
 _Static_assert(sizeof(struct nk_index) == sizeof(uint32_t[PLACES + KINDS + 1]), "145 numbers, and nothing between them");
 
@@ -30,30 +31,6 @@ static struct {
 
 static size_t length;
 static struct nk_index held;
-static char line[LINE];
-static unsigned long calls, lines;
-
-static void fail(const char *what) {
-    printf("FAILED: line %lu of the trace, call %lu: %s\n", lines, calls, what);
-    exit(1);
-}
-
-static int next_line(void) {
-    if (!fgets(line, sizeof line, stdin)) return 0;
-    lines++;
-    size_t n = strlen(line);
-    if (n == 0 || line[n - 1] != '\n') fail("a line without an end");
-    line[n - 1] = 0;
-    return 1;
-}
-
-/* the words of a line, one after another */
-static char *word(char **rest) {
-    char *w = strsep(rest, " ");
-    if (!w) fail("a word is missing");
-    return w;
-}
-
 static uint64_t number_up_to(char **rest, uint64_t most) {
     char *end;
     const char *w = word(rest);

@@ -8,8 +8,9 @@
 #include <string.h>
 
 #include "nk.h"
+#include "trace_lines.h"
 
-enum { GUARD = 64, MOST = 1 << 17, LINE = 1 << 19 };
+enum { GUARD = 64, MOST = 1 << 17 };
 
 static struct {
     uint8_t before[GUARD];
@@ -18,30 +19,6 @@ static struct {
 } lent;
 
 static uint8_t fed[MOST], rooms[GUARD + MOST + GUARD], *const room = rooms + GUARD, expected[MOST];
-static char line[LINE];
-static unsigned long calls, lines;
-
-static void fail(const char *what) {
-    printf("FAILED: line %lu of the trace, call %lu: %s\n", lines, calls, what);
-    exit(1);
-}
-
-static int next_line(void) {
-    if (!fgets(line, sizeof line, stdin)) return 0;
-    lines++;
-    size_t n = strlen(line);
-    if (n == 0 || line[n - 1] != '\n') fail("a line without an end");
-    line[n - 1] = 0;
-    return 1;
-}
-
-/* the words of a line, one after another */
-static char *word(char **rest) {
-    char *w = strsep(rest, " ");
-    if (!w) fail("a word is missing");
-    return w;
-}
-
 static uint64_t number(char **rest) { return strtoull(word(rest), NULL, 10); }
 
 static size_t bytes(char **rest, uint8_t *to) {
