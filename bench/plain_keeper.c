@@ -9,13 +9,18 @@ enum { NEW_UNTIL = 3 }; /* kept events of a device that have to come before one 
 
 static const uint32_t constants[4] = {0x61707865, 0x3320646e, 0x79622d32, 0x6b206574};
 
-static struct nk_answer answer(uint32_t number, uint32_t delivered, uint32_t blocks, uint32_t compressions) {
-    struct nk_answer a = {number, delivered, blocks, compressions};
+static struct nk_answer answer(uint32_t number, uint32_t delivered, uint32_t blocks, uint32_t compressions, uint32_t added) {
+    struct nk_answer a = {number, delivered, blocks, compressions, added};
     return a;
 }
 
 static struct nk_answer refusal(uint32_t number) {
-    return answer(number, 0, 0, 0);
+    return answer(number, 0, 0, 0, 0);
+}
+
+/* A call that is done, delivers nothing, runs no cipher and credits nothing. */
+static struct nk_answer done(void) {
+    return answer(NK_DONE, 0, 0, 0, 0);
 }
 
 static inline uint32_t rotl(uint32_t x, uint32_t k) {
@@ -124,15 +129,17 @@ static uint32_t extract_blocking(struct nk_keeper *k, uint8_t *out, uint32_t len
 
 /* Credits and debits. Bits are at most 8 x 4,096, so 32 bits hold every product. */
 
-static void credit(uint32_t *count, uint32_t size, uint32_t bits) {
-    uint32_t rest = 8 * bits, have = *count;
-    if (rest == 0) return;
+/* Gives back the units added: what all turns together moved the count by. */
+static uint32_t credit(uint32_t *count, uint32_t size, uint32_t bits) {
+    uint32_t rest = 8 * bits, before = *count, have = before;
+    if (rest == 0) return 0;
     do {
         uint32_t a = rest < size / 2 ? rest : size / 2;
         have += (size - have) * a * 3 / (4 * size);
         rest -= a;
     } while (rest > 0 && have < size - 2);
     *count = have;
+    return have - before;
 }
 
 static uint32_t debit(uint32_t *count, uint32_t wanted, uint32_t least) {
@@ -154,11 +161,12 @@ static uint32_t reseed(struct nk_keeper *k, uint32_t now) {
     return compressions;
 }
 
-/* Credits the input pool, and seeds a keeper that was waiting for it. */
-static uint32_t credit_input(struct nk_keeper *k, uint32_t now, uint32_t bits) {
-    credit(&k->ledger.input.count, INPUT_SIZE, bits);
-    if (bits == 0 || k->ledger.seeding.mark == 1 || k->ledger.input.count < FIRST_SEEDING) return 0;
-    return reseed(k, now);
+/* The end of a call that credits the input pool: the credit, and the seeding of a keeper that was waiting for it. What was added stands
+   before the seeding takes from it. */
+static struct nk_answer credit_input(struct nk_keeper *k, uint32_t now, uint32_t bits) {
+    uint32_t added = credit(&k->ledger.input.count, INPUT_SIZE, bits), compressions = 0;
+    if (bits > 0 && k->ledger.seeding.mark != 1 && k->ledger.input.count >= FIRST_SEEDING) compressions = reseed(k, now);
+    return answer(NK_DONE, 0, 0, compressions, added);
 }
 
 /* The calls. */
@@ -169,7 +177,7 @@ struct nk_answer plain_make(struct nk_keeper *k, const uint8_t *start, size_t st
     *k = fresh;
     for (int i = 0; i < 4; i++) k->generator[i] = constants[i];
     for (int i = 0; i < 12; i++) k->generator[4 + i] = get32(start + 4 * i);
-    return answer(NK_DONE, 0, 0, 0);
+    return done();
 }
 
 static inline uint64_t amount(int64_t x) {
@@ -194,14 +202,14 @@ struct nk_answer plain_event(struct nk_keeper *k, uint32_t device, uint32_t now,
     if (device == 0) k->ledger.value = value;
     if (k->came[device] < NEW_UNTIL) {
         k->came[device]++;
-        return answer(NK_DONE, 0, 0, 0);
+        return done();
     }
 
     uint64_t least = amount(d1);
     if (amount(d2) < least) least = amount(d2);
     if (amount(d3) < least) least = amount(d3);
     uint32_t bits = least == 0 ? 0 : least >= 2048 ? 11 : 31 - (uint32_t)__builtin_clz((uint32_t)least);
-    return answer(NK_DONE, 0, 0, credit_input(k, now, bits));
+    return credit_input(k, now, bits);
 }
 
 struct nk_answer plain_interrupt(struct nk_keeper *k, uint32_t now, uint32_t number, uint64_t stamp, uint64_t address) {
@@ -219,7 +227,7 @@ struct nk_answer plain_interrupt(struct nk_keeper *k, uint32_t now, uint32_t num
     k->fast[1] = b;
     k->fast[2] = c;
     k->fast[3] = d;
-    if (++k->ledger.spill.tally < SPILL_AT && since(now, k->ledger.spill.clock) <= SPILL_AFTER) return answer(NK_DONE, 0, 0, 0);
+    if (++k->ledger.spill.tally < SPILL_AT && since(now, k->ledger.spill.clock) <= SPILL_AFTER) return done();
     put32(bytes, a);
     put32(bytes + 4, b);
     put32(bytes + 8, c);
@@ -227,14 +235,14 @@ struct nk_answer plain_interrupt(struct nk_keeper *k, uint32_t now, uint32_t num
     mix_input(k, bytes, sizeof bytes);
     k->ledger.spill.tally = 0;
     k->ledger.spill.clock = now;
-    return answer(NK_DONE, 0, 0, credit_input(k, now, 1));
+    return credit_input(k, now, 1);
 }
 
 struct nk_answer plain_write(struct nk_keeper *k, const uint8_t *bytes, size_t len) {
     if (!in_range(k)) return refusal(NK_OUT_OF_RANGE);
     if (len > NK_LENGTH_MOST) return refusal(NK_TOO_LONG);
     mix_input(k, bytes, len);
-    return answer(NK_DONE, 0, 0, 0);
+    return done();
 }
 
 struct nk_answer plain_seed(struct nk_keeper *k, uint32_t now, const uint8_t *bytes, size_t len, uint32_t credit) {
@@ -242,7 +250,7 @@ struct nk_answer plain_seed(struct nk_keeper *k, uint32_t now, const uint8_t *by
     if (len > NK_LENGTH_MOST) return refusal(NK_TOO_LONG);
     if (credit > 8 * len) return refusal(NK_CREDIT_TOO_HIGH);
     mix_input(k, bytes, len);
-    return answer(NK_DONE, 0, 0, credit_input(k, now, credit));
+    return credit_input(k, now, credit);
 }
 
 static void next_block(uint32_t generator[16], uint8_t *out) {
@@ -254,7 +262,7 @@ struct nk_answer plain_read(struct nk_keeper *k, uint32_t now, uint8_t *out, siz
     uint8_t last[64];
     if (!in_range(k)) return refusal(NK_OUT_OF_RANGE);
     if (len > NK_LENGTH_MOST) return refusal(NK_TOO_LONG);
-    if (len == 0) return answer(NK_DONE, 0, 0, 0);
+    if (len == 0) return done();
     if (k->ledger.seeding.mark != 1) return refusal(NK_UNSEEDED);
     uint32_t compressions = since(now, k->ledger.seeding.clock) > RESEED_AFTER ? reseed(k, now) : 0;
     uint32_t blocks = 0, used = 64;
@@ -273,26 +281,26 @@ struct nk_answer plain_read(struct nk_keeper *k, uint32_t now, uint8_t *out, siz
         used = 0;
     }
     for (int i = 0; i < 8; i++) k->generator[4 + i] ^= get32(last + used + 4 * i);
-    return answer(NK_DONE, (uint32_t)len, blocks, compressions);
+    return answer(NK_DONE, (uint32_t)len, blocks, compressions, 0);
 }
 
 struct nk_answer plain_blocking_read(struct nk_keeper *k, uint8_t *out, size_t len) {
     struct nk_ledger *l = &k->ledger;
     if (!in_range(k)) return refusal(NK_OUT_OF_RANGE);
     if (len > NK_LENGTH_MOST) return refusal(NK_TOO_LONG);
-    if (len == 0) return answer(NK_DONE, 0, 0, 0);
+    if (len == 0) return done();
     if (l->blocking.count < 64 && l->input.count < 512) return refusal(NK_WOULD_BLOCK);
-    uint32_t n = (uint32_t)len, compressions = 0;
+    uint32_t n = (uint32_t)len, compressions = 0, added = 0;
     if (l->blocking.count < 64 * n) {
         uint8_t bytes[128];
         uint32_t taken = debit(&l->input.count, n < 8 ? 8 : n > 128 ? 128 : n, 8);
         if (taken > 0) {
             compressions += extract_input(k, bytes, taken);
             mix_blocking(k, bytes, taken);
-            credit(&l->blocking.count, BLOCKING_SIZE, 8 * taken);
+            added = credit(&l->blocking.count, BLOCKING_SIZE, 8 * taken);
         }
     }
     uint32_t delivered = debit(&l->blocking.count, n, 0);
     compressions += extract_blocking(k, out, delivered);
-    return answer(NK_DONE, delivered, 0, compressions);
+    return answer(NK_DONE, delivered, 0, compressions, added);
 }

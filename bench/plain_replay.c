@@ -16,7 +16,8 @@ static uint64_t get64(const uint8_t *p) { return get32(p) | (uint64_t)get32(p + 
 static void line(struct nk_answer a, const struct nk_keeper *k) {
     static const char digits[] = "0123456789abcdef";
     char hex[2 * NK_LENGTH_MOST];
-    printf("%u %u %u %u %u %u", a.number, a.delivered, k->ledger.input.count, k->ledger.blocking.count, a.blocks, a.compressions);
+    printf("%u %u %u %u %u %u %u", a.number, a.delivered, k->ledger.input.count, k->ledger.blocking.count, a.blocks, a.compressions,
+        a.added);
     if (a.delivered > 0) {
         for (uint32_t i = 0; i < a.delivered; i++) {
             hex[2 * i] = digits[out[i] >> 4];

@@ -8,14 +8,20 @@
  * seeds (noise with the credit that the caller names). What comes out: generator bytes (nk_read), once the keeper has been seeded,
  * and bytes of the blocking pool (nk_blocking_read), as far as its credit goes.
  *
- * THE ANSWER. Each call returns four numbers by value. `number` is NK_DONE or the reason for a refusal. `delivered` is how many bytes a
+ * THE ANSWER. Each call returns five numbers by value. `number` is NK_DONE or the reason for a refusal. `delivered` is how many bytes a
  * read put at the start of its room; 0 for all other calls. `blocks` and `compressions` are the ChaCha20 blocks and SHA-1
  * compressions that this call ran, whatever they were for. They are not its time: mixing is not counted.
+ * `added` is what a credit was worth: by how many eighths of a bit crediting raised a count in this call, before anything was taken from
+ * that count again. Events, interrupts and seeds credit the input pool, and a blocking read that brings bytes over credits the blocking
+ * pool; all other calls answer 0. Of a call that is done, with `taken` the bytes that it took from the input pool for a seeding or to
+ * bring over:
+ *   event, interrupt, seed   input count after + 64 x taken = input count before + added
+ *   blocking read            blocking count after + 64 x delivered = blocking count before + added
  *
- * REFUSALS. A refused call leaves the record and the room as they were, to the last byte, and answers 0 for delivered, blocks and
- * compressions. (That the four bytes of padding in the record stay is tested and not proved.) Where several reasons hold, the number
- * is the first in the order that stands at the call below. NK_OUT_OF_RANGE comes first everywhere, but for nk_make, which does not look
- * at what the record held.
+ * REFUSALS. A refused call leaves the record and the room as they were, to the last byte, and answers 0 for delivered, blocks,
+ * compressions and added. (That the four bytes of padding in the record stay is tested and not proved.) Where several reasons hold, the
+ * number is the first in the order that stands at the call below. NK_OUT_OF_RANGE comes first everywhere, but for nk_make, which does not
+ * look at what the record held.
  *
  * NK_OUT_OF_RANGE says that the record is damaged or was never made. It is answered exactly if
  *   - a count is above its pool's size (input 32,768, blocking 8,192, in eighths of a bit),
@@ -30,8 +36,8 @@
  * MEMORY. The record wants the alignment of struct nk_keeper, 8 bytes; bytes and rooms want none. The record must lie where it can be
  * written: a refused call too stores the ledger back as it found it. No pointer may be null, not even one that comes with a length of 0.
  * A pointer with a length stands for so many bytes, and all of them must be the caller's, also where the length is one that will be
- * refused. Record, room and bytes must not overlap. A call writes the record, and the delivered bytes of a room; it reads the bytes that
- * are fed and keeps no pointer once it has returned.
+ * refused. Record, room and bytes must not overlap. A call writes the record, the delivered bytes of a room and its answer; it reads the
+ * bytes that are fed and keeps no pointer once it has returned.
  *
  * COPIES. Two copies of a record hand out the same bytes. Never copy a record, and never let it be copied: no fork, no snapshot, no
  * image of memory that is restored. A record that is no longer used has to be wiped.
@@ -62,9 +68,10 @@
  *     run back not until it is 300,001 ticks past the last seeding;
  *   - no time makes interrupts spill, but the 64th of them does, and time is counted anew from there.
  *
- * MACHINE. The archive, liblent.a, is for x86-64: little endian, pointers and lengths of 8 bytes, calls as the System V ABI has them. It
- * links to memcpy, memmove and memset, which a compiler may call, and to nothing else. A call uses at most NK_STACK_MOST bytes of stack
- * and relies on what the ABI gives to a program under an operating system. On a bare controller that is the caller's to set up:
+ * MACHINE. The archive, liblent.a, is for x86-64: little endian, pointers and lengths of 8 bytes, calls as the System V ABI has them: an
+ * answer, of 20 bytes, comes back through memory that the calling compiler sets aside. It links to memcpy, memmove and memset, which a
+ * compiler may call, and to nothing else. A call uses at most NK_STACK_MOST bytes of stack and relies on what the ABI gives to a program
+ * under an operating system. On a bare controller that is the caller's to set up:
  *   - The stack pointer is a multiple of 16 at the call.
  *   - SSE2 is on before the first call (CR0.EM and CR0.TS clear, CR4.OSFXSR set). AVX is not used.
  *   - The 128 bytes below the stack pointer belong to the call. A processor that takes an interrupt on the same stack writes over
@@ -173,6 +180,7 @@ struct nk_answer {
     uint32_t delivered;
     uint32_t blocks;
     uint32_t compressions;
+    uint32_t added;
 };
 
 /* The archive was compiled for this layout; a compiler that lays the record out in another way must not link it. A machine of 32 bits may
@@ -207,11 +215,12 @@ NK_HOLDS(offsetof(struct nk_keeper, input) == 384);
 NK_HOLDS(offsetof(struct nk_keeper, blocking) == 896);
 NK_HOLDS(offsetof(struct nk_keeper, fast) == 1024);
 NK_HOLDS(offsetof(struct nk_keeper, generator) == 1040);
-NK_HOLDS(sizeof(struct nk_answer) == 16);
+NK_HOLDS(sizeof(struct nk_answer) == 20);
 NK_HOLDS(offsetof(struct nk_answer, number) == 0);
 NK_HOLDS(offsetof(struct nk_answer, delivered) == 4);
 NK_HOLDS(offsetof(struct nk_answer, blocks) == 8);
 NK_HOLDS(offsetof(struct nk_answer, compressions) == 12);
+NK_HOLDS(offsetof(struct nk_answer, added) == 16);
 #undef NK_HOLDS
 
 /* Makes a keeper of the record, whatever the record held: pools, counts, timers and marks zero, unseeded, the generator's other words

@@ -102,6 +102,57 @@ static void check_came(const struct nk_keeper *k, const struct nk_keeper *l, con
     check(memcmp(came, l->came, sizeof came) == 0, "%s: how many events came is not counted as it should be", what);
 }
 
+/* The bytes that a seeding takes of a count: what it has, 32 at most, and none where it has not 16. */
+static uint32_t seeding_takes(uint32_t count) {
+    uint32_t have = count / 64;
+    return have < 16 ? 0 : have < 32 ? have : 32;
+}
+
+/* What a credit was worth, by the records before and after a call: the count of the pool that was credited rose by so much, once what the
+   same call took from it is put back, and no other count rose. That a seeding took some is told by the mark, and how many tens of bytes by
+   the compressions; what a blocking read brought over, by the input count. */
+static void check_added(const struct nk_keeper *k, const struct nk_keeper *l, const struct call *c, struct nk_answer a, const char *what) {
+    if (a.number != NK_DONE || c->kind == MAKE) {
+        check(a.added == 0, "%s: answered %u, and %u added", what, a.number, a.added);
+        return;
+    }
+    const struct nk_ledger *before = &k->ledger, *after = &l->ledger;
+    uint32_t input = before->input.count, blocking = before->blocking.count; /* the one that is credited becomes what crediting made it */
+    uint32_t taken = 0, delivered = 0; /* bytes that left the input pool and the blocking pool */
+    uint32_t bits = 0; /* the most that it can have been credited with */
+    int unseeded = before->seeding.mark != 1;
+    switch (c->kind) {
+    case EVENT:
+    case INTERRUPT:
+    case SEED:
+        bits = c->kind == EVENT ? 11 : c->kind == INTERRUPT ? 1 : c->credit;
+        input += a.added;
+        if (unseeded && after->seeding.mark == 1) {
+            taken = seeding_takes(input);
+            check(taken > 0, "%s: seeded, and %u added to %u are too little for that", what, a.added, before->input.count);
+        } else if (unseeded) {
+            check(a.added == 0 || input < 1024, "%s: not seeded, and %u added to %u", what, a.added, before->input.count);
+        }
+        break;
+    case READ: taken = a.compressions > 0 ? seeding_takes(input) : 0; break;
+    case BLOCKING_READ:
+        taken = (before->input.count - after->input.count) / 64;
+        check(taken == 0 || (taken >= 8 && taken <= 128), "%s: %u bytes are brought over", what, taken);
+        bits = 8 * taken;
+        blocking += a.added;
+        delivered = a.delivered;
+        break;
+    default: break;
+    }
+    check(after->input.count + 64 * taken == input, "%s: %u added, %u bytes taken, and the input count goes from %u to %u", what, a.added,
+        taken, before->input.count, after->input.count);
+    check(after->blocking.count + 64 * delivered == blocking, "%s: %u added, %u delivered, and the blocking count goes from %u to %u", what,
+        a.added, delivered, before->blocking.count, after->blocking.count);
+    check(a.added <= 6 * bits, "%s: %u added, more than three quarters of %u bits, the most that was credited", what, a.added, bits);
+    check(a.compressions == (taken + 9) / 10 * 8 + (delivered + 9) / 10 * 2,
+        "%s: %u compressions for %u bytes of the input pool and %u of the blocking pool", what, a.compressions, taken, delivered);
+}
+
 /* One call by both sides, on bytes given or, for a read, on a room with random contents. The record becomes the archive's. */
 static struct nk_answer try_on(struct nk_keeper *k, struct call c, const uint8_t *bytes) {
     static unsigned turn;
@@ -124,8 +175,8 @@ static struct nk_answer try_on(struct nk_keeper *k, struct call c, const uint8_t
     struct nk_answer a = proved(l, &c, area_proved + from);
     struct nk_answer b = plain(p, &c, area_plain + from);
 
-    check(memcmp(&a, &b, sizeof a) == 0, "%s: the archive answers %u %u %u %u, plain C %u %u %u %u",
-          what, a.number, a.delivered, a.blocks, a.compressions, b.number, b.delivered, b.blocks, b.compressions);
+    check(memcmp(&a, &b, sizeof a) == 0, "%s: the archive answers %u %u %u %u %u, plain C %u %u %u %u %u",
+          what, a.number, a.delivered, a.blocks, a.compressions, a.added, b.number, b.delivered, b.blocks, b.compressions, b.added);
     if (!check(same_fields(l, p), "%s: the records differ", what)) {
         size_t i = 0;
         while (record_proved[here + i] == record_plain[here + i]) i++;
@@ -145,6 +196,7 @@ static struct nk_answer try_on(struct nk_keeper *k, struct call c, const uint8_t
         check(memcmp(area_proved, area_as_lent, AREA) == 0, "%s: refused, and the room changed", what);
         check(a.delivered == 0 && a.blocks == 0 && a.compressions == 0, "%s: refused, and work reported", what);
     }
+    check_added(k, l, &c, a, what);
     check(memcmp((uint8_t *)l + PADDING, (uint8_t *)k + PADDING, PADDING_END - PADDING) == 0, "%s: the padding changed", what);
     check(a.blocks <= most_work[c.kind].blocks && a.compressions <= most_work[c.kind].compressions,
         "%s: %u blocks and %u compressions, more than the header allows", what, a.blocks, a.compressions);
@@ -293,7 +345,7 @@ static void layout(void) {
     SIZE(struct nk_seeding, 8);
     SIZE(struct nk_ledger, 44);
     SIZE(struct nk_keeper, 1104);
-    SIZE(struct nk_answer, 16);
+    SIZE(struct nk_answer, 20);
     check(_Alignof(struct nk_keeper) == 8, "struct nk_keeper is aligned at %zu", _Alignof(struct nk_keeper));
     OFFSET(struct nk_keeper, ledger.input.count, 0);
     OFFSET(struct nk_keeper, ledger.input.spot.at, 4);
@@ -318,6 +370,7 @@ static void layout(void) {
     OFFSET(struct nk_answer, delivered, 4);
     OFFSET(struct nk_answer, blocks, 8);
     OFFSET(struct nk_answer, compressions, 12);
+    OFFSET(struct nk_answer, added, 16);
 
     /* the archive's own layout: each field is told from its neighbours by what one call does to it */
     struct nk_keeper k;
@@ -390,7 +443,8 @@ static void making(void) {
         for (int j = 0; j < NK_START_LENGTH; j++) start[j] = (uint8_t)(chance() >> 40);
         struct call c = {.kind = MAKE, .len = NK_START_LENGTH};
         struct nk_answer a = try_on(&k, c, start);
-        check(a.number == NK_DONE && a.delivered == 0 && a.blocks == 0 && a.compressions == 0, "a making is answered %u", a.number);
+        check(a.number == NK_DONE && a.delivered == 0 && a.blocks == 0 && a.compressions == 0 && a.added == 0, "a making is answered %u",
+            a.number);
         struct nk_keeper fresh;
         memset(&fresh, 0, sizeof fresh);
         memcpy(fresh.generator, constants, sizeof constants);
@@ -570,9 +624,9 @@ static void out_of_range(void) {
     end();
 }
 
-#define ANSWERED(a, n, d, b, c)                                                                      \
-    check((a).number == (n) && (a).delivered == (d) && (a).blocks == (b) && (a).compressions == (c), \
-        "line %d: answered %u %u %u %u", __LINE__, (a).number, (a).delivered, (a).blocks, (a).compressions)
+#define ANSWERED(a, n, d, b, c, u)                                                                                       \
+    check((a).number == (n) && (a).delivered == (d) && (a).blocks == (b) && (a).compressions == (c) && (a).added == (u), \
+        "line %d: answered %u %u %u %u %u", __LINE__, (a).number, (a).delivered, (a).blocks, (a).compressions, (a).added)
 #define COUNTS(k, i, b)                                                      \
     check((k).ledger.input.count == (i) && (k).ledger.blocking.count == (b), \
         "line %d: counts %u %u", __LINE__, (k).ledger.input.count, (k).ledger.blocking.count)
@@ -583,25 +637,25 @@ static void worked_cases(void) {
     struct nk_answer a;
     make(&k);
     a = try(&k, seed_of(22, 170, 7));
-    ANSWERED(a, NK_DONE, 0, 0, 0);
+    ANSWERED(a, NK_DONE, 0, 0, 0, 1020);
     COUNTS(k, 1020, 0);
     check(k.ledger.seeding.mark == 0, "170 bits seed");
     make(&k);
     a = try(&k, seed_of(22, 171, 7));
-    ANSWERED(a, NK_DONE, 0, 0, 16);
+    ANSWERED(a, NK_DONE, 0, 0, 16, 1026);
     COUNTS(k, 2, 0);
     check(k.ledger.seeding.mark == 1 && k.ledger.seeding.clock == 7, "171 bits do not seed");
     make(&k);
     a = try(&k, seed_of(32, 256, 7));
-    ANSWERED(a, NK_DONE, 0, 0, 24);
+    ANSWERED(a, NK_DONE, 0, 0, 24, 1536);
     COUNTS(k, 0, 0);
     make(&k);
     a = try(&k, seed_of(512, 4096, 7));
-    ANSWERED(a, NK_DONE, 0, 0, 32);
+    ANSWERED(a, NK_DONE, 0, 0, 32, 19968);
     COUNTS(k, 17920, 0);
     struct nk_keeper seeded = k;
     a = try(&k, blocking_read_of(16));
-    ANSWERED(a, NK_DONE, 12, 0, 20);
+    ANSWERED(a, NK_DONE, 12, 0, 20, 768);
     COUNTS(k, 16896, 0);
 
     static const struct { size_t len; uint32_t blocks; } streams[] = {
@@ -609,28 +663,28 @@ static void worked_cases(void) {
     for (size_t i = 0; i < sizeof streams / sizeof *streams; i++) {
         k = seeded;
         a = try(&k, read_of(streams[i].len, 7));
-        ANSWERED(a, NK_DONE, streams[i].len, streams[i].blocks, 0);
+        ANSWERED(a, NK_DONE, streams[i].len, streams[i].blocks, 0, 0);
     }
 
     /* a reseed comes at 300,001 ticks and not at 300,000, and not by a clock that ran back */
     k = seeded;
     a = try(&k, read_of(32, 300007));
-    ANSWERED(a, NK_DONE, 32, 1, 0);
+    ANSWERED(a, NK_DONE, 32, 1, 0, 0);
     a = try(&k, read_of(32, 6));
-    ANSWERED(a, NK_DONE, 32, 1, 0);
+    ANSWERED(a, NK_DONE, 32, 1, 0, 0);
     a = try(&k, read_of(32, 7 + 0x80000000u));
-    ANSWERED(a, NK_DONE, 32, 1, 0);
+    ANSWERED(a, NK_DONE, 32, 1, 0, 0);
     a = try(&k, read_of(32, 300008));
-    ANSWERED(a, NK_DONE, 32, 1, 32);
+    ANSWERED(a, NK_DONE, 32, 1, 32, 0);
     COUNTS(k, 15872, 0);
     check(k.ledger.seeding.clock == 300008, "the seeding clock after a reseed");
     k.ledger.input.count = 1023;
     a = try(&k, read_of(32, 700000));
-    ANSWERED(a, NK_DONE, 32, 1, 0);
+    ANSWERED(a, NK_DONE, 32, 1, 0, 0);
     check(k.ledger.seeding.clock == 300008 && k.ledger.input.count == 1023, "a reseed from 1,023 units");
     k.ledger.input.count = 1024 + 64;
     a = try(&k, read_of(32, 700000));
-    ANSWERED(a, NK_DONE, 32, 1, 16);
+    ANSWERED(a, NK_DONE, 32, 1, 16, 0);
     COUNTS(k, 0, 0);
 
     /* a spill comes at 1,001 ticks and not at 1,000, and at the 64th interrupt; a clock that ran back is no long wait */
@@ -665,7 +719,7 @@ static void worked_cases(void) {
             let_three_come(&k, 4);
             k.ledger.input.count = count;
             a = try(&k, credits[i]);
-            ANSWERED(a, NK_DONE, 0, 0, count == 1019 ? 16 : 0);
+            ANSWERED(a, NK_DONE, 0, 0, count == 1019 ? 16 : 0, 5);
             COUNTS(k, count == 1019 ? 0 : 1023, 0);
             check(k.ledger.seeding.mark == (count == 1019), "1 bit onto %u units by %s seeds, or not", count, names[credits[i].kind]);
         }
@@ -673,7 +727,7 @@ static void worked_cases(void) {
     make(&k);
     k.ledger.input.count = 32768;
     a = try(&k, seed_of(16, 0, 50));
-    ANSWERED(a, NK_DONE, 0, 0, 0);
+    ANSWERED(a, NK_DONE, 0, 0, 0, 0);
     check(k.ledger.seeding.mark == 0 && k.ledger.input.count == 32768, "a credit of 0 bits onto a full pool");
 
     /* crediting near the top: turns go on up to two below the size, and a count never passes it */
@@ -710,9 +764,10 @@ static void worked_cases(void) {
 
 /* The clocks of a device's first five events, all of which would earn, and what is there after each: differences, how many came, the
    input count. The fourth is the first that earns: by its third difference, 300, which goes back to the first event, 8 bits or 48 units;
-   the fifth by its second difference, 100, 6 bits or 35 units onto those. */
-static const struct { uint32_t clock; int64_t first, second; uint8_t came; uint32_t count; } first_events[] = {
-    {1500, 1500, 1500, 1, 0}, {5500, 4000, 2500, 2, 0}, {13000, 7500, 3500, 3, 0}, {24300, 11300, 3800, 3, 48}, {35700, 11400, 100, 3, 83}};
+   the fifth by its second difference, 100, 6 bits or 35 units onto those. Last stands what the event adds. */
+static const struct { uint32_t clock; int64_t first, second; uint8_t came; uint32_t count, added; } first_events[] = {
+    {1500, 1500, 1500, 1, 0, 0}, {5500, 4000, 2500, 2, 0, 0}, {13000, 7500, 3500, 3, 0, 0}, {24300, 11300, 3800, 3, 48, 48},
+    {35700, 11400, 100, 3, 83, 35}};
 enum { FIRST_EVENTS = sizeof first_events / sizeof *first_events };
 
 /* The values differ, so that device 0 repeats none. */
@@ -736,7 +791,7 @@ static void check_first_events(void) {
             uint32_t input[NK_INPUT_WORDS];
             memcpy(input, k.input, sizeof input);
             struct nk_answer a = try(&k, first_event(d, i));
-            ANSWERED(a, NK_DONE, 0, 0, 0);
+            ANSWERED(a, NK_DONE, 0, 0, 0, first_events[i].added);
             COUNTS(k, first_events[i].count, 0);
             check_timer(&k, d, i);
             check(k.ledger.input.spot.at == 128 - 16 * (i + 1) && memcmp(input, k.input, sizeof input) != 0,
@@ -749,7 +804,7 @@ static void check_first_events(void) {
     for (size_t i = 0; i < sizeof clocks / sizeof *clocks; i++) {
         make(&k);
         struct nk_answer a = try(&k, event_of(1, clocks[i], 0));
-        ANSWERED(a, NK_DONE, 0, 0, 0);
+        ANSWERED(a, NK_DONE, 0, 0, 0, 0);
         COUNTS(k, 0, 0);
     }
 }
@@ -759,13 +814,14 @@ static void check_two_devices(void) {
     static const uint32_t pairs[][2] = {{0, 1}, {1, 0}, {3, 9}, {15, 14}, {7, 8}};
     for (size_t p = 0; p < sizeof pairs / sizeof *pairs; p++) {
         static const uint32_t counts[2][FIRST_EVENTS] = {{0, 0, 0, 48, 130}, {0, 0, 0, 95, 165}};
+        static const uint32_t added[2][FIRST_EVENTS] = {{0, 0, 0, 48, 35}, {0, 0, 0, 47, 35}};
         struct nk_keeper k;
         make(&k);
         for (unsigned i = 0; i < FIRST_EVENTS; i++)
             for (unsigned who = 0; who < 2; who++) {
                 uint32_t d = pairs[p][who], other = pairs[p][!who];
                 struct nk_answer a = try(&k, first_event(d, i));
-                ANSWERED(a, NK_DONE, 0, 0, 0);
+                ANSWERED(a, NK_DONE, 0, 0, 0, added[who][i]);
                 COUNTS(k, counts[who][i], 0);
                 check_timer(&k, d, i);
                 if (who == 1 || i > 0) check_timer(&k, other, who == 1 ? i : i - 1);
@@ -780,7 +836,7 @@ static void check_repeated(void) {
     check(try(&k, event_of(0, 900, 0)).number == NK_REPEATED && k.came[0] == 0, "a 7 before the first event counts");
     for (unsigned i = 0; i < FIRST_EVENTS; i++) {
         struct nk_answer a = try(&k, first_event(0, i));
-        ANSWERED(a, NK_DONE, 0, 0, 0);
+        ANSWERED(a, NK_DONE, 0, 0, 0, first_events[i].added);
         for (uint32_t again = 1; again <= 3; again++) {
             check(try(&k, event_of(0, first_events[i].clock + 777 * again, i + 1)).number == NK_REPEATED, "no 7 after event %u", i + 1);
             check_timer(&k, 0, i);
@@ -830,7 +886,7 @@ static void check_each_number(void) {
             k.came[d] = came;
             k.ledger.input.count = 32768;
             struct nk_answer a = try(&k, event_of(d, 1024, 5));
-            ANSWERED(a, NK_DONE, 0, 0, came == 3 ? 32 : 0);
+            ANSWERED(a, NK_DONE, 0, 0, came == 3 ? 32 : 0, 0);
             check(k.ledger.seeding.mark == (came == 3), "device %u, %u came: seeded, or not", d, came);
         }
 }
@@ -864,6 +920,216 @@ static void new_devices(void) {
     end();
 }
 
+/* What a credit was worth: rows of fixed numbers, worked out by hand. Each has the counts before, what is done, and the answer with the
+   counts after it. */
+
+/* A made keeper with these counts, seeded or not. */
+static void make_with(struct nk_keeper *k, uint32_t input, uint32_t blocking, uint32_t mark) {
+    make(k);
+    k->ledger.input.count = input;
+    k->ledger.blocking.count = blocking;
+    k->ledger.seeding.mark = mark;
+}
+
+#define ROWS(rows) (sizeof(rows) / sizeof *(rows))
+
+static void check_worth_of_seeds(void) {
+    static const struct { uint32_t input, mark, bits, added, input_after, compressions; } rows[] = {
+        {0, 0, 1, 6, 6, 0},
+        {0, 0, 170, 1020, 1020, 0},
+        {0, 0, 171, 1026, 2, 16}, /* 1,024 of them are taken at once */
+        {0, 1, 171, 1026, 1026, 0},
+        {0, 0, 256, 1536, 0, 24},
+        {0, 0, 4096, 19968, 17920, 32}, /* two turns, 12,288 and 7,680 */
+        {17920, 1, 4096, 9048, 26968, 0}, /* 5,568 and 3,480 */
+        {0, 1, 32768, 32749, 32749, 0}, /* sixteen turns, from 12,288 down to 11 */
+        {1024, 0, 1, 5, 5, 16},
+        {32764, 1, 4096, 2, 32766, 0},
+        /* so full that a credit adds nothing; a keeper that waits for a seeding has it all the same */
+        {32762, 1, 1, 0, 32762, 0},
+        {32762, 0, 1, 0, 30714, 32},
+        {32766, 1, 32768, 0, 32766, 0},
+        {32768, 1, 32768, 0, 32768, 0},
+        {32768, 0, 32768, 0, 30720, 32},
+        /* no bits */
+        {0, 0, 0, 0, 0, 0},
+        {1024, 0, 0, 0, 1024, 0},
+        {32768, 0, 0, 0, 32768, 0},
+        {20000, 1, 0, 0, 20000, 0}};
+    for (size_t i = 0; i < ROWS(rows); i++)
+        for (size_t longer = 0; longer < 2; longer++) {
+            struct nk_keeper k;
+            make_with(&k, rows[i].input, 0, rows[i].mark);
+            struct nk_answer a = try(&k, seed_of(longer ? 4096 : (rows[i].bits + 7) / 8, rows[i].bits, 50));
+            check(a.added == rows[i].added, "%u bits onto %u: %u added", rows[i].bits, rows[i].input, a.added);
+            ANSWERED(a, NK_DONE, 0, 0, rows[i].compressions, rows[i].added);
+            COUNTS(k, rows[i].input_after, 0);
+        }
+}
+
+/* An interrupt is worth something where it spills. */
+static void check_worth_of_interrupts(void) {
+    static const struct { uint32_t input, mark, tally, clock, added, input_after, compressions; } rows[] = {
+        {0, 0, 0, 1000, 0, 0, 0},
+        {0, 0, 0, 1001, 6, 6, 0},
+        {0, 0, 62, 1000, 0, 0, 0},
+        {0, 0, 63, 1000, 6, 6, 0},
+        {0, 0, 63, 0x80000000, 6, 6, 0},
+        {1019, 0, 0, 1000, 0, 1019, 0},
+        {1019, 0, 0, 1001, 5, 0, 16},
+        {1019, 1, 0, 1001, 5, 1024, 0},
+        {16384, 1, 0, 1001, 3, 16387, 0},
+        {32762, 1, 0, 1001, 0, 32762, 0},
+        {32768, 0, 0, 1001, 0, 30720, 32},
+        {32768, 0, 0, 1000, 0, 32768, 0}};
+    for (size_t i = 0; i < ROWS(rows); i++) {
+        struct nk_keeper k;
+        make_with(&k, rows[i].input, 0, rows[i].mark);
+        k.ledger.spill.tally = rows[i].tally;
+        struct nk_answer a = try(&k, interrupt_at(rows[i].clock));
+        check(a.added == rows[i].added, "interrupt %u at %u onto %u: %u added", rows[i].tally + 1, rows[i].clock, rows[i].input, a.added);
+        ANSWERED(a, NK_DONE, 0, 0, rows[i].compressions, rows[i].added);
+        COUNTS(k, rows[i].input_after, 0);
+    }
+}
+
+/* An event is, where its device is not new and its clock is uneven enough. The timer is a fresh one's, so all differences are the clock. */
+static void check_worth_of_events(void) {
+    static const struct { uint32_t came, input, mark, clock, added, input_after, compressions; } rows[] = {
+        {0, 0, 0, 2048, 0, 0, 0},
+        {2, 0, 0, 2048, 0, 0, 0},
+        {2, 32768, 0, 2048, 0, 32768, 0},
+        {3, 0, 0, 0, 0, 0, 0},
+        {3, 0, 0, 1, 0, 0, 0},
+        {3, 0, 0, 2, 6, 6, 0},
+        {3, 0, 0, 4, 12, 12, 0},
+        {3, 0, 0, 2047, 60, 60, 0},
+        {3, 0, 0, 2048, 66, 66, 0},
+        {3, 0, 0, 0x80000000, 66, 66, 0},
+        {3, 1000, 0, 4, 11, 1011, 0},
+        {3, 1020, 0, 4, 11, 7, 16},
+        {3, 1020, 1, 4, 11, 1031, 0},
+        {3, 1024, 0, 1, 0, 1024, 0},
+        {3, 16384, 1, 2048, 33, 16417, 0},
+        {3, 32762, 1, 2048, 0, 32762, 0},
+        {3, 32762, 0, 2048, 0, 30714, 32}};
+    for (size_t i = 0; i < ROWS(rows); i++)
+        for (uint32_t d = 0; d < NK_DEVICES; d++) {
+            struct nk_keeper k;
+            make_with(&k, rows[i].input, 0, rows[i].mark);
+            k.came[d] = (uint8_t)rows[i].came;
+            struct nk_answer a = try(&k, event_of(d, rows[i].clock, 5));
+            check(a.added == rows[i].added, "device %u at %u, %u came, onto %u: %u added", d, rows[i].clock, rows[i].came, rows[i].input,
+                a.added);
+            ANSWERED(a, NK_DONE, 0, 0, rows[i].compressions, rows[i].added);
+            COUNTS(k, rows[i].input_after, 0);
+        }
+}
+
+/* A blocking read is, where it brings bytes over; what it adds is the blocking pool's. */
+static void check_worth_of_blocking_reads(void) {
+    static const struct { uint32_t input, blocking, len, added, delivered, input_after, blocking_after, compressions; } rows[] = {
+        {17920, 0, 16, 768, 12, 16896, 0, 20},
+        {512, 63, 1, 381, 1, 0, 380, 10},
+        {600, 1000, 128, 379, 21, 24, 35, 14},
+        {32768, 0, 128, 4992, 78, 24576, 0, 120}, /* two turns, 3,072 and 1,920 */
+        /* brought over into a pool that is so full that a credit adds nothing */
+        {32768, 8191, 129, 0, 127, 24576, 63, 130},
+        {32768, 8192, 129, 0, 128, 24576, 0, 130},
+        /* nothing brought over: the blocking pool has enough, or the input pool too little */
+        {17920, 1024, 16, 0, 16, 17920, 0, 4},
+        {32768, 8192, 128, 0, 128, 32768, 0, 26},
+        {511, 100, 8, 0, 1, 511, 36, 2},
+        {0, 64, 4096, 0, 1, 0, 0, 2},
+        /* no bytes asked for */
+        {17920, 0, 0, 0, 0, 17920, 0, 0}};
+    for (size_t i = 0; i < ROWS(rows); i++)
+        for (uint32_t mark = 0; mark < 2; mark++) {
+            struct nk_keeper k;
+            make_with(&k, rows[i].input, rows[i].blocking, mark);
+            struct nk_answer a = try(&k, blocking_read_of(rows[i].len));
+            check(a.added == rows[i].added, "a blocking read of %u, counts %u and %u: %u added", rows[i].len, rows[i].input,
+                rows[i].blocking, a.added);
+            ANSWERED(a, NK_DONE, rows[i].delivered, 0, rows[i].compressions, rows[i].added);
+            COUNTS(k, rows[i].input_after, rows[i].blocking_after);
+        }
+    /* one after another, on one keeper */
+    struct nk_keeper k;
+    make(&k);
+    struct nk_answer a = try(&k, seed_of(512, 4096, 7));
+    ANSWERED(a, NK_DONE, 0, 0, 32, 19968);
+    a = try(&k, blocking_read_of(16));
+    ANSWERED(a, NK_DONE, 12, 0, 20, 768);
+    COUNTS(k, 16896, 0);
+}
+
+/* A call that adds 6, so that whatever comes after it would show what is left over of them. */
+static void add_six(struct nk_keeper *k) {
+    make(k);
+    struct nk_answer a = try(k, interrupt_at(2000));
+    ANSWERED(a, NK_DONE, 0, 0, 0, 6);
+}
+
+/* Nothing is left over from the call before: every refusal, and every call that is done and credits nothing, right after one that added. */
+static void check_nothing_left_over(void) {
+    const struct { struct call call; uint32_t number; } rows[] = {
+        {blocking_read_of(1), NK_WOULD_BLOCK},
+        {read_of(1, 7), NK_UNSEEDED},
+        {write_of(4097), NK_TOO_LONG},
+        {seed_of(4097, 1, 7), NK_TOO_LONG},
+        {read_of(4097, 7), NK_TOO_LONG},
+        {blocking_read_of(4097), NK_TOO_LONG},
+        {event_of(16, 7, 1), NK_NO_SUCH_DEVICE},
+        {seed_of(1, 9, 7), NK_CREDIT_TOO_HIGH},
+        {{.kind = MAKE, .len = 47}, NK_START_NOT_48},
+        {event_of(0, 7, 0), NK_REPEATED},
+        {{.kind = MAKE, .len = NK_START_LENGTH}, NK_DONE},
+        {event_of(1, 7, 1), NK_DONE},
+        {interrupt_at(2001), NK_DONE},
+        {write_of(40), NK_DONE},
+        {seed_of(40, 0, 7), NK_DONE},
+        {read_of(0, 7), NK_DONE},
+        {blocking_read_of(0), NK_DONE}};
+    struct nk_keeper k;
+    struct nk_answer a;
+    for (size_t i = 0; i < ROWS(rows); i++) {
+        add_six(&k);
+        a = try(&k, rows[i].call);
+        check(a.added == 0, "%s, answered %u after a call that added 6: %u added", names[rows[i].call.kind], a.number, a.added);
+        ANSWERED(a, rows[i].number, 0, 0, 0, 0);
+    }
+    for (size_t i = 0; i < ROWS(at_damage); i++) {
+        add_six(&k);
+        k.ledger.spill.tally = 64;
+        a = try(&k, at_damage[i]);
+        ANSWERED(a, NK_OUT_OF_RANGE, 0, 0, 0, 0);
+    }
+    /* a generator read, by itself and one that seeds anew; and a blocking read that brings nothing over */
+    add_six(&k);
+    a = try(&k, seed_of(512, 4096, 7));
+    ANSWERED(a, NK_DONE, 0, 0, 32, 19963);
+    a = try(&k, read_of(32, 8));
+    ANSWERED(a, NK_DONE, 32, 1, 0, 0);
+    a = try(&k, seed_of(1, 1, 9));
+    ANSWERED(a, NK_DONE, 0, 0, 0, 2);
+    a = try(&k, read_of(32, 900000));
+    ANSWERED(a, NK_DONE, 32, 1, 32, 0);
+    a = try(&k, blocking_read_of(1));
+    ANSWERED(a, NK_DONE, 1, 0, 10, 384);
+    a = try(&k, blocking_read_of(5));
+    ANSWERED(a, NK_DONE, 5, 0, 2, 0);
+}
+
+static void worth(void) {
+    begin("what a credit was worth");
+    check_worth_of_seeds();
+    check_worth_of_interrupts();
+    check_worth_of_events();
+    check_worth_of_blocking_reads();
+    check_nothing_left_over();
+    end();
+}
+
 /* What the header says beyond the single calls. */
 static void header_says(void) {
     struct nk_keeper ready, k;
@@ -888,7 +1154,7 @@ static void header_says(void) {
         k.ledger.seeding.mark = is_read(most[i].kind);
         a = try(&k, most[i]);
         ANSWERED(a, NK_DONE, most[i].kind == READ ? 4096 : most[i].kind == BLOCKING_READ ? 128 : 0, most_work[most[i].kind].blocks,
-            most_work[most[i].kind].compressions);
+            most_work[most[i].kind].compressions, 0);
     }
     end();
 
@@ -1027,7 +1293,7 @@ static size_t random_length(void) {
 }
 
 static void random_calls(uint64_t seed) {
-    unsigned seen[8] = {0}, damaged = 0, came_before[4] = {0}, earned = 0;
+    unsigned seen[8] = {0}, damaged = 0, came_before[4] = {0}, earned = 0, worth_some[KINDS] = {0}, first_seedings = 0;
     char name[80];
     snprintf(name, sizeof name, "%d random calls, seed %" PRIu64, RANDOM_CALLS, seed);
     begin(name);
@@ -1061,10 +1327,12 @@ static void random_calls(uint64_t seed) {
         }
         c.credit = below(4) ? (uint32_t)(c.len * 8) / (1 + below(30)) : (uint32_t)(c.len * 8) + below(2);
         unsigned came = k.came[c.device & 15];
-        uint32_t count = k.ledger.input.count;
+        uint32_t count = k.ledger.input.count, mark = k.ledger.seeding.mark;
         struct nk_answer a = try(&k, c);
         if (a.number < 8) seen[a.number]++;
         if (a.number == NK_DONE && c.kind == EVENT) came_before[came & 3]++, earned += k.ledger.input.count != count;
+        worth_some[c.kind] += a.added > 0;
+        first_seedings += mark != 1 && k.ledger.seeding.mark == 1 && a.added > 0;
         check(number_of(k, write_of(0)) == NK_DONE, "random call %d left the record out of range", n);
     }
     /* the calls must have come by every answer that they can have, or they test less than they seem to */
@@ -1073,6 +1341,9 @@ static void random_calls(uint64_t seed) {
     check(damaged > 0, "no random call met a damaged record");
     for (unsigned came = 0; came <= 3; came++) check(came_before[came] > 0, "no random event had %u before it", came);
     check(earned > 0, "no random event earned");
+    static const enum kind crediting[] = {EVENT, INTERRUPT, SEED, BLOCKING_READ};
+    for (size_t i = 0; i < ROWS(crediting); i++) check(worth_some[crediting[i]] > 0, "no random %s added", names[crediting[i]]);
+    check(first_seedings > 0, "no random call added and seeded at once");
     end();
 }
 
@@ -1087,6 +1358,7 @@ int main(int argc, char **argv) {
     out_of_range();
     worked_cases();
     new_devices();
+    worth();
     header_says();
     lengths();
     random_calls(seed);

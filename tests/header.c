@@ -1,5 +1,5 @@
-/* What nk.h says that a test in C can see and tests/face.c does not: the calls from C++ (tests/header.cc), and a record that lies where
- * it cannot be written. tests/header builds and runs it. */
+/* What nk.h says that a test in C can see and tests/face.c does not: the calls from C++ (tests/header.cc), how an answer comes back, and a
+ * record that lies where it cannot be written. tests/header builds and runs it. */
 #define _DEFAULT_SOURCE
 #include <setjmp.h>
 #include <signal.h>
@@ -26,6 +26,59 @@ enum { PAGE = 4096, ROOM = 5000 };
 static sigjmp_buf back;
 static struct nk_keeper *k;
 static uint8_t bytes[ROOM];
+
+#if defined __x86_64__
+/* An answer has more bytes than come back in registers: the ABI has the caller hand over the address of a place for it, before all else,
+ * and the call give that address back. These types say so in the open, so that the place can lie between guards. They are not the calls'
+ * own, and volatile keeps the compiler from seeing it. */
+typedef struct nk_answer *feeding(struct nk_answer *, struct nk_keeper *, const uint8_t *, size_t);
+typedef struct nk_answer *happening(struct nk_answer *, struct nk_keeper *, uint32_t, uint32_t, uint64_t, uint32_t);
+typedef struct nk_answer *interrupting(struct nk_answer *, struct nk_keeper *, uint32_t, uint32_t, uint64_t, uint64_t);
+typedef struct nk_answer *seeding(struct nk_answer *, struct nk_keeper *, uint32_t, const uint8_t *, size_t, uint32_t);
+typedef struct nk_answer *reading(struct nk_answer *, struct nk_keeper *, uint32_t, uint8_t *, size_t);
+typedef struct nk_answer *blocking(struct nk_answer *, struct nk_keeper *, uint8_t *, size_t);
+typedef void any(void);
+static feeding *volatile make_to = (feeding *)(any *)nk_make, *volatile write_to = (feeding *)(any *)nk_write;
+static happening *volatile event_to = (happening *)(any *)nk_event;
+static interrupting *volatile interrupt_to = (interrupting *)(any *)nk_interrupt;
+static seeding *volatile seed_to = (seeding *)(any *)nk_seed;
+static reading *volatile read_to = (reading *)(any *)nk_read;
+static blocking *volatile blocking_read_to = (blocking *)(any *)nk_blocking_read;
+
+static struct nk_answer *answer_to(struct nk_answer *to, struct nk_keeper *own, int which) {
+    switch (which) {
+    case 0: return make_to(to, own, bytes, NK_START_LENGTH);
+    case 1: return event_to(to, own, 1, 5000, 1, 1);
+    case 2: return interrupt_to(to, own, 5000, 1, 1, 1);
+    case 3: return write_to(to, own, bytes, 4);
+    case 4: return seed_to(to, own, 5000, bytes, 512, 4096);
+    case 5: return read_to(to, own, 5000, bytes, 32);
+    default: return blocking_read_to(to, own, bytes, 16);
+    }
+}
+enum { ANSWERS = 7, GUARD = 64 };
+
+static void through_memory(void) {
+    begin("an answer is written where the caller said, with nothing beside it, and its address comes back");
+    static const struct nk_answer done[ANSWERS] = {{NK_DONE, 0, 0, 0, 0}, {NK_DONE, 0, 0, 0, 0}, {NK_DONE, 0, 0, 0, 6},
+        {NK_DONE, 0, 0, 0, 0}, {NK_DONE, 0, 0, 32, 19963}, {NK_DONE, 32, 1, 0, 0}, {NK_DONE, 12, 0, 20, 768}};
+    static const struct nk_answer refused = {NK_OUT_OF_RANGE, 0, 0, 0, 0};
+    static _Alignas(16) uint8_t lent[GUARD + 16 + sizeof(struct nk_answer) + GUARD], expected[sizeof lent];
+    static struct nk_keeper own;
+    for (size_t at = GUARD; at < GUARD + 16; at += _Alignof(struct nk_answer))
+        for (int damaged = 0; damaged < 2; damaged++)
+            for (int i = 0; i < ANSWERS; i++) {
+                memset(lent, 0xb5, sizeof lent);
+                memset(expected, 0xb5, sizeof expected);
+                memcpy(expected + at, damaged && i > 0 ? &refused : &done[i], sizeof refused);
+                struct nk_answer *to = (struct nk_answer *)(void *)(lent + at);
+                check(answer_to(to, &own, i) == to, "call %d, damaged %d: another address comes back", i, damaged);
+                check(memcmp(lent, expected, sizeof lent) == 0, "call %d, damaged %d: another answer, or something beside it", i, damaged);
+                if (damaged) own.ledger.spill.tally = 64;
+            }
+    end();
+}
+#endif
 
 static void fault(int signal) {
     (void)signal;
@@ -83,6 +136,9 @@ static void read_only(void) {
 int main(void) {
 #ifdef WITH_CXX
     from_cxx();
+#endif
+#if defined __x86_64__
+    through_memory();
 #endif
     read_only();
     return counted();

@@ -17,7 +17,7 @@ static struct nk_answer answer;
 static uint8_t bytes[4097];
 
 static struct nk_answer nothing(void) {
-    struct nk_answer a = {0, 0, 0, 0};
+    struct nk_answer a = {0, 0, 0, 0, 0};
     return a;
 }
 

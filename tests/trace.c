@@ -152,8 +152,10 @@ static void compare(struct nk_answer got, size_t asked) {
     want.delivered = (uint32_t)number(&rest);
     want.blocks = (uint32_t)number(&rest);
     want.compressions = (uint32_t)number(&rest);
+    want.added = (uint32_t)number(&rest);
     if (memcmp(&got, &want, sizeof got)) {
-        printf("answered %" PRIu32 " %" PRIu32 " %" PRIu32 " %" PRIu32 "\n", got.number, got.delivered, got.blocks, got.compressions);
+        printf("answered %" PRIu32 " %" PRIu32 " %" PRIu32 " %" PRIu32 " %" PRIu32 "\n", got.number, got.delivered, got.blocks,
+            got.compressions, got.added);
         fail("another answer");
     }
     rest = line;

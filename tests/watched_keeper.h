@@ -93,7 +93,7 @@ static bool pretended(enum call call, struct nk_answer *a) {
     bool breaks_in = interrupts_break_in && (call != INTERRUPT || interrupts_sent % 4 == 0);
     if (breaks_in) terminal_interrupt(&terminal, interrupts_sent++, 0x08000000u + script);
     if (!pretends || call != pretended_call) return false;
-    struct nk_answer other = {pretended_number, 0, 0, 0};
+    struct nk_answer other = {pretended_number, 0, 0, 0, 0};
     *a = other;
     return true;
 }

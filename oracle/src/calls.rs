@@ -30,9 +30,11 @@ pub const FORMAT: &str = "\
 # blocking NOW BYTES                  the same
 #
 # After each call come three lines:
-# answer NUMBER DELIVERED BLOCKS COMPRESSIONS
+# answer NUMBER DELIVERED BLOCKS COMPRESSIONS ADDED
 # room BYTES                          the room after the call; - where there is none
 # keeper FIELDS                       the whole record, or the word none before it is made
+#
+# ADDED are the units that crediting added to either pool, before any debit.
 #
 # FIELDS, in this order, 11 + 64 + 180 words:
 #   input count, blocking count, input position, blocking position,
@@ -90,8 +92,10 @@ fn answer_line(answer: &Answer) -> String {
         delivered,
         blocks,
         compressions,
+        added,
+        taken: _,
     } = answer;
-    format!("answer {number} {delivered} {blocks} {compressions}")
+    format!("answer {number} {delivered} {blocks} {compressions} {added}")
 }
 
 fn keeper_line(k: &Keeper) -> String {
@@ -315,6 +319,10 @@ impl Trace<'_> {
         self.put(place, came)
     }
 
+    fn put_count(&mut self, field: &'static str, count: i64) -> io::Result<()> {
+        self.put(Place { field, index: 0 }, count)
+    }
+
     /// Says of each device how many of its events came, of most of them enough
     /// for the next to earn: few devices come four times in one sequence.
     fn devices_that_came(&mut self, random: &mut Random) -> io::Result<()> {
@@ -337,9 +345,8 @@ impl Trace<'_> {
     /// Gives a fresh keeper a count that would seed it, which no journal can.
     /// Nothing seeds it then but a credit, and one does even to a full pool.
     fn unseeded_with_enough(&mut self, random: &mut Random) -> io::Result<()> {
-        let field = "input-count";
         let count = random.pick(&[1_024, 1_025, 2_048, 32_767, 32_768]);
-        self.put(Place { field, index: 0 }, count)?;
+        self.put_count("input-count", count)?;
         self.put_came(WORTH_NOTHING, 3)?;
         self.put_came(WORTH_ONE_BIT, 3)?;
         let too_few = random.pick(&[0, 1, 2]);
@@ -349,6 +356,32 @@ impl Trace<'_> {
         }
         let one_bit = crediting_one_bit(random);
         self.call(random, &one_bit)
+    }
+
+    /// Lends a fresh keeper pools that are as good as full, so that a credit adds
+    /// little or nothing: to the blocking pool, which no journal fills, and to the
+    /// input pool, where it seeds the keeper all the same.
+    fn nearly_full(&mut self, random: &mut Random) -> io::Result<()> {
+        for _ in 0..3 {
+            let count = random.between(8_128, 8_192) as i64;
+            let count = random.pick(&[count, 8_187, 8_188, 8_189, 8_190, 8_191, 8_192]);
+            self.put_count("blocking-count", count)?;
+            let count = random.pick(&[512, 4_096, 4_160, 8_192, 32_768]);
+            self.put_count("input-count", count)?;
+            let length = random.pick(&[128, 129, 200, 4_096]);
+            let now = random.u32();
+            self.call(random, &Record::Blocking { now, length })?;
+        }
+        self.put_came(WORTH_ONE_BIT, 3)?;
+        let mut each = one_bit_each(random);
+        // The first of them seeds the keeper.
+        each.rotate_left(random.below(3) as usize);
+        for one_bit in each {
+            let count = random.pick(&[27_306, 27_307, 32_762, 32_766, 32_767, 32_768]);
+            self.put_count("input-count", count)?;
+            self.call(random, &one_bit)?;
+        }
+        Ok(())
     }
 }
 
@@ -384,11 +417,17 @@ fn crediting_nothing(random: &mut Random) -> [Record<'static>; 8] {
 
 /// A call that credits one bit after those.
 fn crediting_one_bit(random: &mut Random) -> Record<'static> {
-    match random.below(3) {
-        0 => seed(random, 1, 1),
-        1 => event(random, WORTH_ONE_BIT, 3),
-        _ => interrupt(random, 1_001),
-    }
+    let which = random.below(3) as usize;
+    one_bit_each(random)[which].clone()
+}
+
+/// A seed, an event and an interrupt that credit one bit each to a fresh keeper.
+fn one_bit_each(random: &mut Random) -> [Record<'static>; 3] {
+    [
+        seed(random, 1, 1),
+        event(random, WORTH_ONE_BIT, 3),
+        interrupt(random, 1_001),
+    ]
 }
 
 fn seed(random: &mut Random, credit: u32, length: usize) -> Record<'static> {
@@ -418,8 +457,8 @@ fn interrupt(random: &mut Random, now: u32) -> Record<'static> {
 }
 
 /// One sequence of so many begins with a keeper that is unseeded and has a
-/// count that would seed it.
-const UNSEEDED_EVERY: u64 = 8;
+/// count that would seed it, and another with pools that are nearly full.
+const ONE_OF: u64 = 8;
 
 /// Writes `count` sequences.
 pub fn calls(seed: u64, count: u64, out: &mut dyn Write) -> io::Result<()> {
@@ -433,16 +472,18 @@ pub fn calls(seed: u64, count: u64, out: &mut dyn Write) -> io::Result<()> {
             let length = random.pick(&[0, 1, 47, 49, 96]);
             let bytes = random.bytes(length);
             writeln!(out, "make {}", word_of(&bytes))?;
-            writeln!(out, "answer {BAD_START} 0 0 0\nroom -\nkeeper none")?;
+            writeln!(out, "answer {BAD_START} 0 0 0 0\nroom -\nkeeper none")?;
         }
         let start: [u8; START] = start(random);
         let keeper = Keeper::make(&start).expect("the start has its length");
         writeln!(out, "make {}", hex(&start))?;
-        writeln!(out, "answer 0 0 0 0\nroom -\n{}", keeper_line(&keeper))?;
+        writeln!(out, "answer 0 0 0 0 0\nroom -\n{}", keeper_line(&keeper))?;
 
         let mut trace = Trace { out, keeper };
-        if number % UNSEEDED_EVERY == 1 {
-            trace.unseeded_with_enough(random)?;
+        match number % ONE_OF {
+            1 => trace.unseeded_with_enough(random)?,
+            5 => trace.nearly_full(random)?,
+            _ => {}
         }
         if !random.one_in(3) {
             trace.devices_that_came(random)?;
@@ -617,6 +658,7 @@ mod tests {
     /// A call that was done, by a trace's text alone.
     struct Done<'a> {
         call: Vec<&'a str>,
+        added: i64,
         /// The words of the keeper's lines before and after it, the fields that
         /// were put in between among the former.
         before: Vec<String>,
@@ -627,6 +669,7 @@ mod tests {
     fn word_at(field: &str, index: usize) -> Option<usize> {
         let first = match field {
             "input-count" => 1,
+            "blocking-count" => 2,
             "seeded" => 10,
             "clock" => 12,
             "d1" => 28,
@@ -641,7 +684,7 @@ mod tests {
         let mut done = Vec::new();
         let mut before: Vec<String> = Vec::new();
         let mut call = Vec::new();
-        let mut answer = "";
+        let mut answer = Vec::new();
         for line in text.lines().filter(|l| !l.starts_with('#')) {
             let w: Vec<&str> = line.split(' ').collect();
             match w[0] {
@@ -651,13 +694,14 @@ mod tests {
                         before[at] = w[3].to_owned();
                     }
                 }
-                "answer" => answer = w[1],
+                "answer" => answer = w,
                 "keeper" if w[1] == "none" => {}
                 "keeper" => {
                     let words = w.iter().map(|word| (*word).to_owned()).collect();
-                    if answer == "0" && call[0] != "make" {
+                    if answer[1] == "0" && call[0] != "make" {
                         done.push(Done {
                             call: call.clone(),
+                            added: number(answer[5]),
                             before: before.clone(),
                             after: w,
                         });
@@ -732,9 +776,9 @@ mod tests {
     }
 
     /// How many of the events that find so many events before them, on a pool
-    /// that is not full, are worth something, and how many earn.
+    /// to which one bit still adds, are worth something, and how many earn.
     fn worthy_and_earning(done: &[Done], came: i64) -> (usize, usize) {
-        let found = |d: &&Done| d.came() == Some(came) && d.before("input-count", 0) < 30_000;
+        let found = |d: &&Done| d.came() == Some(came) && d.before("input-count", 0) < 27_307;
         let events: Vec<&Done> = done.iter().filter(found).collect();
         let worthy = |d: &&&Done| {
             let device = d.device().unwrap();
@@ -769,6 +813,52 @@ mod tests {
                 let counts = d.device() == Some(device) && before < 3;
                 assert_eq!(d.after("came", device), before + i64::from(counts));
             }
+        }
+    }
+
+    /// What a count rises by at a call; less than nothing where it falls.
+    fn rise(d: &Done, field: &str) -> i64 {
+        d.after(field, 0) - d.before(field, 0)
+    }
+
+    /// Where nothing is taken out of a pool, its count tells what was added.
+    #[test]
+    fn calls_add_what_the_input_count_rises_by() {
+        let text = trace(10, 120);
+        let mut times = 0;
+        for d in done(&text) {
+            let seeds = d.before("seeded", 0) != d.after("seeded", 0);
+            let expected = match d.call[0] {
+                "write" | "generator" => 0,
+                "blocking" => continue,
+                _ if seeds => continue,
+                _ => rise(&d, "input-count"),
+            };
+            assert_eq!(d.added, expected, "{:?}", d.call);
+            times += i32::from(expected > 0);
+        }
+        assert!(times >= 300, "{times}");
+    }
+
+    #[test]
+    fn pools_that_are_nearly_full() {
+        let text = trace(11, 120);
+        let done = done(&text);
+        let times = |shows: &dyn Fn(&Done) -> bool| done.iter().filter(|d| shows(d)).count();
+        // A transfer that adds nothing to the blocking pool, or very little.
+        let transfer = |d: &Done, added: i64| {
+            d.call[0] == "blocking" && rise(d, "input-count") < 0 && d.added == added
+        };
+        for added in 0..3 {
+            let times = times(&|d| transfer(d, added));
+            assert!(times >= 3, "{added}: {times}");
+        }
+        // A first seeding by bits that add nothing.
+        for call in ["seed", "device", "interrupt"] {
+            let seeds = |d: &Done| d.before("seeded", 0) < d.after("seeded", 0);
+            let shows = |d: &Done| d.call[0] == call && seeds(d) && d.added == 0;
+            let times = times(&shows);
+            assert!(times >= 3, "{call}: {times}");
         }
     }
 

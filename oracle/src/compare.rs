@@ -569,9 +569,9 @@ mod tests {
 
     #[test]
     fn outputs_are_split_after_each_end() {
-        let parts = split(b"0 0 0 0 0 0\nend 0\nend 8\n1 0");
+        let parts = split(b"0 0 0 0 0 0 0\nend 0\nend 8\n1 0");
         let parts: Vec<&[u8]> = parts.iter().map(Vec::as_slice).collect();
-        assert_eq!(parts, [&b"0 0 0 0 0 0\nend 0\n"[..], b"end 8\n", b"1 0"]);
+        assert_eq!(parts, [&b"0 0 0 0 0 0 0\nend 0\n"[..], b"end 8\n", b"1 0"]);
     }
 
     #[test]

@@ -29,14 +29,28 @@ fn worth(least: u64) -> u32 {
     }
 }
 
-/// The count after crediting `bits` to a pool of this size.
-pub fn credited(count: u32, size: u32, bits: u32) -> u32 {
-    turns(count, size, bits).last().copied().unwrap_or(count)
+/// What a crediting comes to.
+#[derive(Clone, Copy, Debug, PartialEq)]
+pub struct Credited {
+    /// The pool's count after it.
+    pub count: u32,
+    /// The units by which it raised the count.
+    pub added: u32,
+}
+
+/// Credits `bits` to a pool of this size. What was added is read off the two
+/// counts: each turn rounds down, and a rule of its own could round otherwise.
+pub fn credited(before: u32, size: u32, bits: u32) -> Credited {
+    let count = turns(before, size, bits).last().copied().unwrap_or(before);
+    Credited {
+        count,
+        added: count - before,
+    }
 }
 
 /// The count after each turn of crediting. There is none for zero bits, and
 /// at least one otherwise, however full the pool is.
-fn turns(count: u32, size: u32, bits: u32) -> Vec<u32> {
+pub fn turns(count: u32, size: u32, bits: u32) -> Vec<u32> {
     let size = u64::from(size);
     let mut count = u64::from(count);
     let mut rest = 8 * u64::from(bits);
@@ -97,18 +111,46 @@ mod tests {
         assert_eq!(clock_difference(0xffff_ffff, 4), -5);
     }
 
+    /// The count and the units added, of a pool as large as the input pool.
+    fn input(before: u32, bits: u32) -> (u32, u32) {
+        let Credited { count, added } = credited(before, 32_768, bits);
+        (count, added)
+    }
+
     #[test]
     fn p5_and_p6_one_bit() {
-        assert_eq!(credited(0, 32_768, 1), 6);
-        assert_eq!(credited(32_762, 32_768, 1), 32_762);
+        assert_eq!(input(0, 1), (6, 6));
+        assert_eq!(input(32_762, 1), (32_762, 0));
     }
 
     #[test]
     fn p7_to_p10_counts_before_any_reseed() {
-        assert_eq!(credited(0, 32_768, 170), 1_020);
-        assert_eq!(credited(0, 32_768, 171), 1_026);
-        assert_eq!(credited(0, 32_768, 256), 1_536);
+        assert_eq!(input(0, 170), (1_020, 1_020));
+        assert_eq!(input(0, 171), (1_026, 1_026));
+        assert_eq!(input(0, 256), (1_536, 1_536));
+        assert_eq!(input(0, 4_096), (19_968, 19_968));
         assert_eq!(turns(0, 32_768, 4_096), [12_288, 19_968]);
+    }
+
+    #[test]
+    fn p11_a_transfer_of_sixteen_bytes() {
+        let expected = Credited {
+            count: 768,
+            added: 768,
+        };
+        assert_eq!(credited(0, 8_192, 128), expected);
+    }
+
+    #[test]
+    fn what_is_added_is_the_rise_and_not_the_new_count() {
+        assert_eq!(input(77, 0), (77, 0));
+        assert_eq!(input(1_000, 1), (1_005, 5));
+        // One bit adds nothing from here on.
+        assert_eq!(input(27_306, 1), (27_307, 1));
+        assert_eq!(input(27_307, 1), (27_307, 0));
+        // Two turns, the second of eight units only.
+        assert_eq!(input(10_000, 2_048), (18_538, 8_538));
+        assert_eq!(input(10_000, 2_049), (18_540, 8_540));
     }
 
     #[test]
@@ -117,7 +159,9 @@ mod tests {
         assert_eq!(turns(8_192, 8_192, 32_768), [8_192]);
         assert_eq!(turns(8_190, 8_192, 32_768), [8_190]);
         assert_eq!(turns(8_188, 8_192, 32_768), [8_189, 8_190]);
-        assert!(credited(0, 8_192, 32_768) <= 8_192);
+        assert_eq!(credited(8_192, 8_192, 32_768).added, 0);
+        assert_eq!(credited(8_188, 8_192, 32_768).added, 2);
+        assert!(credited(0, 8_192, 32_768).count <= 8_192);
     }
 
     #[test]

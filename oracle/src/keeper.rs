@@ -1,7 +1,7 @@
 //! The keeper record and the calls on it.
 
 use crate::cipher;
-use crate::credits::{clock_difference, credited, debited, estimate};
+use crate::credits::{clock_difference, credited, debited, estimate, Credited};
 use crate::pools::{Pool, BLOCKING, INPUT};
 
 // The numbers a call gives back.
@@ -74,7 +74,7 @@ impl Timer {
 
     /// The bits that an event at `now` earns. Until the fourth, a difference
     /// still goes back to the clock of zero that no event had.
-    fn earned(&self, now: u32) -> u32 {
+    pub fn earned(&self, now: u32) -> u32 {
         if self.came < CAME_MOST {
             0
         } else {
@@ -105,19 +105,18 @@ pub struct Answer {
     pub delivered: usize,
     pub blocks: u64,
     pub compressions: u64,
+    /// The units that crediting added, over both pools. A debit in the same
+    /// call, for a first seeding or for what is delivered, does not lower it.
+    pub added: u32,
+    /// The bytes taken out of the input pool. Nobody is told: it is here to hold
+    /// the counts against.
+    pub taken: usize,
 }
 
 impl Answer {
     fn refusal(number: u8) -> Answer {
         Answer {
             number,
-            ..Answer::default()
-        }
-    }
-
-    fn worked(compressions: u64) -> Answer {
-        Answer {
-            compressions,
             ..Answer::default()
         }
     }
@@ -177,7 +176,7 @@ impl Keeper {
         let timer = &mut self.timers[usize::from(device)];
         let earned = timer.earned(now);
         *timer = timer.after(now);
-        Answer::worked(self.credit_input(earned, now))
+        self.credit_input(earned, now)
     }
 
     pub fn interrupt(&mut self, now: u32, number: u32, stamp: u64, address: u64) -> Answer {
@@ -202,7 +201,7 @@ impl Keeper {
         }
         self.tally = 0;
         self.last_spill = now;
-        Answer::worked(self.credit_input(1, now))
+        self.credit_input(1, now)
     }
 
     pub fn write(&mut self, bytes: &[u8]) -> Answer {
@@ -227,7 +226,7 @@ impl Keeper {
             return Answer::refusal(TOO_MUCH_CREDIT);
         }
         self.input.mix(bytes);
-        Answer::worked(self.credit_input(bits, now))
+        self.credit_input(bits, now)
     }
 
     /// Fills the whole room, or leaves all of it alone.
@@ -249,7 +248,7 @@ impl Keeper {
             ..Answer::default()
         };
         if clock_difference(now, self.seeding_clock) > RESEED_TICKS {
-            answer.compressions = self.reseed(now);
+            self.reseed(now, &mut answer);
         }
         let mut block = [0; 16];
         let mut used = 0;
@@ -289,7 +288,7 @@ impl Keeper {
         }
         let mut answer = Answer::default();
         if (self.blocking.count as usize) < 64 * wanted {
-            answer.compressions += self.refill_blocking(wanted);
+            self.refill_blocking(wanted, &mut answer);
         }
         let (taken, left) = debited(self.blocking.count, wanted, 0);
         self.blocking.count = left;
@@ -301,39 +300,52 @@ impl Keeper {
     }
 
     /// Moves bytes from the input pool to the blocking pool.
-    fn refill_blocking(&mut self, wanted: usize) -> u64 {
-        let (taken, left) = debited(self.input.count, wanted.clamp(8, 128), 8);
-        self.input.count = left;
-        let (bytes, compressions) = self.input.extract(taken);
+    fn refill_blocking(&mut self, wanted: usize, answer: &mut Answer) {
+        let bytes = self.take_input(wanted.clamp(8, 128), 8, answer);
         self.blocking.mix(&bytes);
-        self.blocking.count = credited(self.blocking.count, BLOCKING.size, 8 * taken as u32);
-        compressions
+        let bits = 8 * bytes.len() as u32;
+        let Credited { count, added } = credited(self.blocking.count, BLOCKING.size, bits);
+        self.blocking.count = count;
+        answer.added += added;
     }
 
     /// Credits the input pool, which may seed the keeper for the first time.
-    fn credit_input(&mut self, bits: u32, now: u32) -> u64 {
-        self.input.count = credited(self.input.count, INPUT.size, bits);
-        if bits > 0 && !self.seeded && self.input.count >= SEED_COUNT {
-            self.reseed(now)
-        } else {
-            0
+    fn credit_input(&mut self, bits: u32, now: u32) -> Answer {
+        let Credited { count, added } = credited(self.input.count, INPUT.size, bits);
+        self.input.count = count;
+        let mut answer = Answer {
+            added,
+            ..Answer::default()
+        };
+        if bits > 0 && !self.seeded && count >= SEED_COUNT {
+            self.reseed(now, &mut answer);
         }
+        answer
     }
 
     /// Brings bytes of the input pool into the key, if there are enough.
-    fn reseed(&mut self, now: u32) -> u64 {
-        let (taken, left) = debited(self.input.count, 32, 16);
-        if taken == 0 {
-            return 0;
+    fn reseed(&mut self, now: u32, answer: &mut Answer) {
+        let bytes = self.take_input(32, 16, answer);
+        if bytes.is_empty() {
+            return;
         }
-        self.input.count = left;
-        let (bytes, compressions) = self.input.extract(taken);
         for (i, byte) in bytes.into_iter().enumerate() {
             self.generator[4 + i / 4] ^= u32::from(byte) << (8 * (i % 4));
         }
         self.seeding_clock = now;
         self.seeded = true;
-        compressions
+    }
+
+    /// Takes bytes out of the input pool, and none where there are fewer than
+    /// the least.
+    fn take_input(&mut self, wanted: usize, least: usize, answer: &mut Answer) -> Vec<u8> {
+        let (taken, left) = debited(self.input.count, wanted, least);
+        self.input.count = left;
+        let (bytes, compressions) = self.input.extract(taken);
+        answer.compressions += compressions;
+        // By the bytes themselves, and not by what the debit says.
+        answer.taken += bytes.len();
+        bytes
     }
 
     fn next_block(&mut self) -> [u32; 16] {
@@ -434,12 +446,13 @@ mod tests {
     const FIVE: [u32; 5] = [1_024, 1_100, 9_000, 9_500, 70_000];
 
     /// What the input count rises by at each of these events: a device, its
-    /// clock and its value.
+    /// clock and its value. The answers say the same.
     fn rises(keeper: &mut Keeper, events: &[(u8, u32, u32)]) -> Vec<u32> {
         let one = |(device, now, value): &(u8, u32, u32)| {
             let before = keeper.input.count;
-            keeper.device_event(*device, *now, 9, *value);
-            keeper.input.count - before
+            let answer = keeper.device_event(*device, *now, 9, *value);
+            assert_eq!(answer.added, keeper.input.count - before);
+            answer.added
         };
         events.iter().map(one).collect()
     }
@@ -453,9 +466,10 @@ mod tests {
                 assert_eq!(timer.came, came);
                 assert!(timer.worth(now) > 0);
                 let expected = if came < 3 { 0 } else { timer.worth(now) };
-                let count = credited(keeper.input.count, INPUT.size, expected);
-                keeper.device_event(device as u8, now, 9, now);
-                assert_eq!(keeper.input.count, count);
+                let expected = credited(keeper.input.count, INPUT.size, expected);
+                let answer = keeper.device_event(device as u8, now, 9, now);
+                assert_eq!(keeper.input.count, expected.count);
+                assert_eq!(answer.added, expected.added);
             }
             assert_eq!(keeper.timers[device].came, 3);
             assert!(keeper.input.count > 0);
@@ -562,19 +576,47 @@ mod tests {
         }
     }
 
+    /// The answer to a call that credits the input pool and takes nothing.
+    fn adding(added: u32) -> Answer {
+        Answer {
+            added,
+            ..Answer::default()
+        }
+    }
+
+    #[test]
+    fn p5_and_p6_the_units_of_one_bit() {
+        let (keeper, answer) = after_credit(1);
+        assert_eq!((keeper.input.count, answer), (6, adding(6)));
+        let (mut keeper, _) = after_credit(4_096);
+        keeper.input.count = 32_762;
+        assert_eq!(keeper.seed(7, &[1], 1), adding(0));
+        assert_eq!(keeper.input.count, 32_762);
+    }
+
     #[test]
     fn p7_credit_170_leaves_a_keeper_unseeded() {
         let (keeper, answer) = after_credit(170);
         assert_eq!((keeper.input.count, keeper.seeded), (1_020, false));
-        assert_eq!(answer.compressions, 0);
+        assert_eq!(answer, adding(1_020));
     }
 
     #[test]
     fn p8_to_p10_credits_that_seed() {
-        for (bits, left, compressions) in [(171, 2, 16), (256, 0, 24), (4_096, 17_920, 32)] {
+        for (bits, added, taken, left, compressions) in [
+            (171, 1_026, 16, 2, 16),
+            (256, 1_536, 24, 0, 24),
+            (4_096, 19_968, 32, 17_920, 32),
+        ] {
             let (keeper, answer) = after_credit(bits);
             assert_eq!((keeper.input.count, keeper.seeded), (left, true));
-            assert_eq!(answer, Answer::worked(compressions));
+            let expected = Answer {
+                compressions,
+                added,
+                taken,
+                ..Answer::default()
+            };
+            assert_eq!(answer, expected);
             assert_eq!(keeper.seeding_clock, 7);
             let touched = |words: &[u32]| words.iter().filter(|w| **w != 0).count();
             let key_words = match bits {
@@ -591,11 +633,89 @@ mod tests {
     fn p11_a_blocking_read_after_p10() {
         let (mut keeper, _) = after_credit(4_096);
         let mut room = [0xee; 16];
-        let answer = keeper.blocking_read(&mut room);
-        assert_eq!((answer.number, answer.delivered), (DONE, 12));
-        assert_eq!((answer.blocks, answer.compressions), (0, 20));
+        let expected = Answer {
+            number: DONE,
+            delivered: 12,
+            blocks: 0,
+            compressions: 20,
+            added: 768,
+            taken: 16,
+        };
+        assert_eq!(keeper.blocking_read(&mut room), expected);
         assert_eq!((keeper.input.count, keeper.blocking.count), (16_896, 0));
         assert_eq!(room[12..], [0xee; 4]);
+    }
+
+    /// The units that a blocking read adds, and what it delivers and leaves, of
+    /// a keeper with these counts of the input and the blocking pool.
+    fn blocking_read(counts: (u32, u32), length: usize) -> (u32, usize, (u32, u32)) {
+        let (mut keeper, _) = after_credit(4_096);
+        (keeper.input.count, keeper.blocking.count) = counts;
+        let answer = keeper.blocking_read(&mut vec![0; length]);
+        let counts = (keeper.input.count, keeper.blocking.count);
+        (answer.added, answer.delivered, counts)
+    }
+
+    #[test]
+    fn a_blocking_read_adds_what_its_transfer_is_worth_before_it_delivers() {
+        // Eight bytes for one, and what is left.
+        assert_eq!(blocking_read((600, 0), 1), (384, 1, (88, 320)));
+        assert_eq!(blocking_read((600, 63), 1), (381, 1, (88, 380)));
+        // 128 bytes, which is two turns: 3,072 and 1,920.
+        assert_eq!(blocking_read((9_000, 0), 200), (4_992, 78, (808, 0)));
+        // A transfer to a full pool, or one so full that it adds nothing.
+        assert_eq!(blocking_read((9_000, 8_192), 200), (0, 128, (808, 0)));
+        assert_eq!(blocking_read((9_000, 8_190), 128), (0, 127, (808, 62)));
+        assert_eq!(blocking_read((9_000, 8_191), 128), (0, 127, (808, 63)));
+    }
+
+    #[test]
+    fn a_blocking_read_without_a_transfer_adds_nothing() {
+        // Its pool has enough, or the input pool too little.
+        assert_eq!(blocking_read((9_000, 320), 5), (0, 5, (9_000, 0)));
+        assert_eq!(blocking_read((511, 320), 6), (0, 5, (511, 0)));
+        assert_eq!(blocking_read((9_000, 0), 0), (0, 0, (9_000, 0)));
+        assert_eq!(blocking_read((511, 63), 1), (0, 0, (511, 63)));
+    }
+
+    #[test]
+    fn a_seed_of_no_bits_adds_nothing() {
+        for count in [0, 1_023, 17_920, 32_768] {
+            let (mut keeper, _) = after_credit(4_096);
+            keeper.input.count = count;
+            assert_eq!(keeper.seed(7, &[1, 2, 3], 0), Answer::default());
+            assert_eq!(keeper.seed(7, &[], 0), Answer::default());
+            assert_eq!(keeper.input.count, count);
+        }
+    }
+
+    /// A full pool may seed a keeper too, and adds nothing then.
+    #[test]
+    fn a_first_seeding_tells_what_was_added_before_it() {
+        for (before, added, taken, left) in [
+            (1_018, 5, 0, 1_023),
+            (1_019, 5, 16, 0),
+            (1_023, 5, 16, 4),
+            (2_048, 5, 32, 5),
+            (32_768, 0, 32, 30_720),
+        ] {
+            let mut keeper = fresh();
+            keeper.input.count = before;
+            let answer = keeper.seed(7, &[1], 1);
+            assert_eq!((answer.added, answer.taken), (added, taken));
+            assert_eq!((keeper.input.count, keeper.seeded), (left, taken > 0));
+        }
+    }
+
+    #[test]
+    fn a_call_that_credits_nothing_adds_nothing() {
+        let (mut keeper, _) = after_credit(4_096);
+        assert_eq!(keeper.write(&[1, 2, 3]), Answer::default());
+        assert_eq!(keeper.generator_read(7, &mut [0; 4]).added, 0);
+        // A reseed takes, and does not add.
+        let answer = keeper.generator_read(300_008, &mut [0; 4]);
+        assert_eq!((answer.added, answer.taken), (0, 32));
+        assert_eq!(keeper.input.count, 17_920 - 64 * 32);
     }
 
     #[test]
@@ -665,18 +785,28 @@ mod tests {
     fn interrupts_spill_at_the_sixty_fourth_or_after_a_thousand_ticks() {
         let mut keeper = fresh();
         for _ in 0..63 {
-            keeper.interrupt(1_000, 1, 2, 3);
+            assert_eq!(keeper.interrupt(1_000, 1, 2, 3), adding(0));
         }
         assert_eq!((keeper.tally, keeper.input.count), (63, 0));
-        keeper.interrupt(1_000, 1, 2, 3);
+        assert_eq!(keeper.interrupt(1_000, 1, 2, 3), adding(6));
         assert_eq!((keeper.tally, keeper.input.count), (0, 6));
         assert_eq!((keeper.last_spill, keeper.input.position), (1_000, 112));
 
         let mut keeper = fresh();
-        keeper.interrupt(1_001, 1, 2, 3);
+        assert_eq!(keeper.interrupt(1_001, 1, 2, 3), adding(6));
         assert_eq!((keeper.tally, keeper.last_spill), (0, 1_001));
-        keeper.interrupt(0, 1, 2, 3);
+        assert_eq!(keeper.interrupt(0, 1, 2, 3), adding(0));
         assert_eq!((keeper.tally, keeper.last_spill), (1, 1_001));
+    }
+
+    #[test]
+    fn a_spill_into_a_nearly_full_pool_adds_nothing() {
+        for (count, added) in [(27_306, 1), (27_307, 0), (32_768, 0)] {
+            let (mut keeper, _) = after_credit(4_096);
+            keeper.input.count = count;
+            assert_eq!(keeper.interrupt(1_001, 1, 2, 3), adding(added));
+            assert_eq!((keeper.tally, keeper.input.count), (0, count + added));
+        }
     }
 
     #[test]
@@ -697,16 +827,17 @@ mod tests {
         let mut keeper = base.clone();
         let long = vec![1; LONGEST + 1];
         let mut room = vec![9; LONGEST + 1];
-        assert_eq!(keeper.device_event(16, 1, 1, 1).number, NO_DEVICE);
-        assert_eq!(keeper.device_event(0, 1, 1, 0).number, REPEATED);
-        assert_eq!(keeper.write(&long).number, TOO_LONG);
-        assert_eq!(keeper.seed(1, &long, u32::MAX).number, TOO_LONG);
-        assert_eq!(keeper.seed(1, &[1, 2], 17).number, TOO_MUCH_CREDIT);
-        assert_eq!(keeper.generator_read(1, &mut room).number, TOO_LONG);
-        assert_eq!(keeper.generator_read(1, &mut room[..1]).number, UNSEEDED);
-        assert_eq!(keeper.blocking_read(&mut room).number, TOO_LONG);
+        let refused = Answer::refusal;
+        assert_eq!(keeper.device_event(16, 1, 1, 1), refused(NO_DEVICE));
+        assert_eq!(keeper.device_event(0, 1, 1, 0), refused(REPEATED));
+        assert_eq!(keeper.write(&long), refused(TOO_LONG));
+        assert_eq!(keeper.seed(1, &long, u32::MAX), refused(TOO_LONG));
+        assert_eq!(keeper.seed(1, &[1, 2], 17), refused(TOO_MUCH_CREDIT));
+        assert_eq!(keeper.generator_read(1, &mut room), refused(TOO_LONG));
+        assert_eq!(keeper.generator_read(1, &mut room[..1]), refused(UNSEEDED));
+        assert_eq!(keeper.blocking_read(&mut room), refused(TOO_LONG));
         keeper.input.count = 511;
-        assert_eq!(keeper.blocking_read(&mut room[..1]).number, WOULD_BLOCK);
+        assert_eq!(keeper.blocking_read(&mut room[..1]), refused(WOULD_BLOCK));
         keeper.input.count = base.input.count;
         assert_eq!(keeper.generator_read(1, &mut []), Answer::default());
         assert_eq!(keeper.blocking_read(&mut []), Answer::default());

@@ -1,6 +1,7 @@
 //! A second program for the keeper, written from its rules alone, to hold the
 //! first one's transcripts against.
 
+mod balance;
 mod calls;
 mod cipher;
 mod compare;

@@ -17,6 +17,7 @@ mod reseeds;
 pub mod sized;
 mod spills;
 mod thresholds;
+mod worths;
 mod zero_seeds;
 
 use crate::random::Random;
@@ -57,19 +58,21 @@ enum Steps {
     ZeroSeed,
     Devices,
     NewDevices,
+    Worths,
 }
 
 /// The same in turn. A run of 2,000 journals has some 166 of these, and there
 /// are 63 tallies to spill at.
-const STEPS: [Steps; 9] = [
+const STEPS: [Steps; 10] = [
     Steps::TimedSpill,
     Steps::Reseed,
     Steps::TimedSpill,
     Steps::NewDevices,
+    Steps::Worths,
+    Steps::TimedSpill,
     Steps::ZeroSeed,
     Steps::TimedSpill,
     Steps::Reseed,
-    Steps::TimedSpill,
     Steps::Devices,
 ];
 
@@ -104,6 +107,7 @@ fn steps(random: &mut Random, turn: u64) -> Vec<u8> {
         Steps::ZeroSeed => zero_seeds::zero_seed(random, turn),
         Steps::Devices => devices::devices(random, turn),
         Steps::NewDevices => new_devices::new_devices(random, turn),
+        Steps::Worths => worths::worths(random, turn),
     }
 }
 
@@ -136,7 +140,7 @@ mod tests {
         assert_eq!(sum, JOURNALS_OF_SEED_1);
     }
 
-    const JOURNALS_OF_SEED_1: u64 = 6_783_040_774_515_024_991;
+    const JOURNALS_OF_SEED_1: u64 = 5_707_963_455_711_599_394;
 
     #[test]
     fn all_come_in_their_turn() {

@@ -2,7 +2,7 @@
 //! be kept with their transcripts.
 
 use crate::maker;
-use crate::situations::{Next, Seeder, Situation, Situation::*, Wait};
+use crate::situations::{Creditor, Next, Seeder, Situation, Situation::*, Wait, Worth};
 use crate::watch::Shown;
 
 /// What a kept journal is to show.
@@ -45,11 +45,8 @@ impl Wish {
 fn wishes() -> Vec<Wish> {
     use Value::{Any, Is};
     let mut wishes = Vec::new();
-    for (seeder, name) in [
-        (Seeder::Event, "a device event"),
-        (Seeder::Interrupt, "an interrupt"),
-        (Seeder::Seed, "a seed"),
-    ] {
+    for seeder in [Seeder::Event, Seeder::Interrupt, Seeder::Seed] {
+        let name = seeder.name();
         let waits = [Wait::NotDue, Wait::Due, Wait::RanBack];
         wishes.push(Wish {
             text: format!(
@@ -119,6 +116,7 @@ fn wishes() -> Vec<Wish> {
         ),
     ]);
     wishes.extend(new_devices());
+    wishes.extend(worths());
     wishes
 }
 
@@ -155,6 +153,36 @@ fn new_devices() -> [Wish; 5] {
         Wish::new(
             "first, second or third event worth nothing; the fourth earns",
             &[1, 2, 3].map(|nth| (WorthNothingCounts, Is(nth))),
+        ),
+    ]
+}
+
+/// Those of what credits are worth.
+fn worths() -> [Wish; 4] {
+    use Value::{Any, Is};
+    let nothing = [Creditor::Event, Creditor::Interrupt, Creditor::Seed]
+        .map(|creditor| (Credit(creditor, Worth::NoUnits), Any));
+    [
+        Wish::new(
+            "a nearly full pool: bits of an event, an interrupt and a seed add nothing",
+            &nothing,
+        ),
+        Wish::new(
+            "blocking reads that add in one turn and in two, and that add nothing",
+            &[
+                (Credit(Creditor::BlockingRead, Worth::OneTurn), Any),
+                (Credit(Creditor::BlockingRead, Worth::SeveralTurns), Any),
+                (NoTransfer(true), Any),
+                (NoTransfer(false), Any),
+            ],
+        ),
+        Wish::new(
+            "refused with each number right after a call that adds",
+            &[1, 2, 3, 4, 5, 7].map(|number| (RefusedAfterAdding, Is(number))),
+        ),
+        Wish::new(
+            "a seed of three turns",
+            &[(Credit(Creditor::Seed, Worth::SeveralTurns), Is(3))],
         ),
     ]
 }

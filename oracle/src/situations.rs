@@ -12,6 +12,16 @@ pub enum Seeder {
     Seed,
 }
 
+impl Seeder {
+    pub fn name(self) -> &'static str {
+        match self {
+            Seeder::Event => "a device event",
+            Seeder::Interrupt => "an interrupt",
+            Seeder::Seed => "a seed",
+        }
+    }
+}
+
 /// How far a generator read lies from the seeding clock.
 #[derive(Clone, Copy, Debug, PartialEq, Eq, PartialOrd, Ord)]
 pub enum Wait {
@@ -26,6 +36,27 @@ pub enum Next {
     Read,
     Reseed,
     BlockingRead,
+}
+
+/// A call that may credit a pool.
+#[derive(Clone, Copy, Debug, PartialEq, Eq, PartialOrd, Ord)]
+pub enum Creditor {
+    Event,
+    Interrupt,
+    Seed,
+    BlockingRead,
+}
+
+/// What came of it, by the units that its answer carries.
+#[derive(Clone, Copy, Debug, PartialEq, Eq, PartialOrd, Ord)]
+pub enum Worth {
+    /// Nothing was credited.
+    NoBits,
+    /// Bits were, and the pool is so full that they add nothing.
+    NoUnits,
+    OneTurn,
+    /// By how many turns.
+    SeveralTurns,
 }
 
 /// Some are looked for at each of many values: all tallies, all kinds, all
@@ -74,6 +105,18 @@ pub enum Situation {
     /// would have seeded the keeper.
     NewDeviceDoesNotSeed,
     KnownDeviceSeeds,
+    Credit(Creditor, Worth),
+    /// A seed of which a part is left over, as the pool is full before it.
+    FullBeforeTheRest,
+    /// A blocking read that delivers what its own pool has, and whether that is
+    /// all it wants.
+    NoTransfer(bool),
+    /// More units than the count has once the bytes of the key are taken.
+    FirstSeedingAdds(Seeder),
+    /// By the number. The call before it added units.
+    RefusedAfterAdding,
+    /// By the kind, of those that never credit. The call before it added units.
+    OtherAfterAdding,
     /// By the length; so are the next two.
     HeaderRight,
     HeaderLetters,
@@ -87,6 +130,23 @@ pub enum Situation {
     /// By the version.
     VersionWrong,
 }
+
+/// What may come of each call. An event or a spill is worth less than a turn,
+/// and no journal fills the blocking pool.
+const CREDITS: [(Creditor, Worth); 12] = [
+    (Creditor::Event, Worth::NoBits),
+    (Creditor::Event, Worth::NoUnits),
+    (Creditor::Event, Worth::OneTurn),
+    (Creditor::Interrupt, Worth::NoBits),
+    (Creditor::Interrupt, Worth::NoUnits),
+    (Creditor::Interrupt, Worth::OneTurn),
+    (Creditor::Seed, Worth::NoBits),
+    (Creditor::Seed, Worth::NoUnits),
+    (Creditor::Seed, Worth::OneTurn),
+    (Creditor::Seed, Worth::SeveralTurns),
+    (Creditor::BlockingRead, Worth::OneTurn),
+    (Creditor::BlockingRead, Worth::SeveralTurns),
+];
 
 impl Situation {
     /// All of them, in the order in which they are told.
@@ -122,6 +182,13 @@ impl Situation {
             TwoDevicesInTurn,
             NewDeviceDoesNotSeed,
             KnownDeviceSeeds,
+        ]);
+        all.extend(CREDITS.map(|(creditor, worth)| Credit(creditor, worth)));
+        all.extend([FullBeforeTheRest, NoTransfer(true), NoTransfer(false)]);
+        all.extend([Seeder::Event, Seeder::Interrupt, Seeder::Seed].map(FirstSeedingAdds));
+        all.extend([
+            RefusedAfterAdding,
+            OtherAfterAdding,
             HeaderRight,
             HeaderLetters,
             HeaderVersion,
@@ -149,6 +216,10 @@ impl Situation {
             FirstClockEarnsNothing => (1..=11).collect(),
             KnownDeviceEarns | KnownDeviceSeeds => vec![4, 5],
             RepeatedDoesNotCount => (0..=2).collect(),
+            Credit(Creditor::Seed, Worth::SeveralTurns) => vec![2, 3, 4, 16],
+            Credit(Creditor::BlockingRead, Worth::SeveralTurns) => vec![2],
+            RefusedAfterAdding => vec![1, 2, 3, 4, 5, 7],
+            OtherAfterAdding => vec![3, 5],
             HeaderRight => (0..=53).collect(),
             HeaderLetters => (1..=53).collect(),
             HeaderVersion => (4..=53).collect(),
@@ -165,11 +236,7 @@ impl fmt::Display for Situation {
             Answer(number) => return write!(f, "answer {number}"),
             End(number) => return write!(f, "end {number}"),
             FirstSeeded(seeder, wait, past_zero) => {
-                let seeder = match seeder {
-                    Seeder::Event => "a device event",
-                    Seeder::Interrupt => "an interrupt",
-                    Seeder::Seed => "a seed",
-                };
+                let seeder = seeder.name();
                 let wait = match wait {
                     Wait::NotDue => "not due after 300,000 ticks",
                     Wait::Due => "due after 300,001 ticks",
@@ -185,6 +252,28 @@ impl fmt::Display for Situation {
                     Next::BlockingRead => "a blocking read from the input pool",
                 };
                 return write!(f, "seed of 0 bits on 1,024 or more, then {next}");
+            }
+            Credit(creditor, worth) => {
+                let creditor = match creditor {
+                    Creditor::Event => "a device event",
+                    Creditor::Interrupt => "an interrupt",
+                    Creditor::Seed => "a seed",
+                    Creditor::BlockingRead => "a blocking read",
+                };
+                let worth = match worth {
+                    Worth::NoBits => "credits nothing",
+                    Worth::NoUnits => "credits bits and adds no units",
+                    Worth::OneTurn => "adds units in one turn",
+                    Worth::SeveralTurns => "adds units in several turns",
+                };
+                return write!(f, "{creditor} {worth}");
+            }
+            FirstSeedingAdds(seeder) => {
+                return write!(
+                    f,
+                    "first seeded by {}: more units added than left",
+                    seeder.name()
+                );
             }
             NoSpillAt1000 => "no spill 1,000 ticks after the last",
             SpillAt1001 => "spill by time 1,001 ticks after the last",
@@ -209,6 +298,11 @@ impl fmt::Display for Situation {
             TwoDevicesInTurn => "two new devices in turn, up to event 4 of each",
             NewDeviceDoesNotSeed => "events 1 to 3 of a device, worth enough to seed, do not",
             KnownDeviceSeeds => "events 4 and 5 of a device do the first seeding",
+            FullBeforeTheRest => "a seed fills the pool before its last turn",
+            NoTransfer(true) => "a blocking read adds nothing, its pool has enough",
+            NoTransfer(false) => "a blocking read adds nothing, the input pool has too little",
+            RefusedAfterAdding => "refused with each number, right after a call that adds",
+            OtherAfterAdding => "a write and a generator read, right after a call that adds",
             HeaderRight => "header right so far, of each length",
             HeaderLetters => "header with wrong letters, of each length",
             HeaderVersion => "header with a wrong version, of each length",

@@ -1,5 +1,6 @@
 //! The replay of a journal, as text.
 
+use crate::balance::{self, Counts};
 use crate::journal::{self, Record};
 use crate::keeper::{Answer, Keeper, DONE};
 
@@ -17,8 +18,17 @@ pub fn perform(keeper: &mut Keeper, record: &Record) -> (Answer, Vec<u8>) {
     (answer, room)
 }
 
-/// The same with the caller's own room, whose length is the read's.
+/// The same with the caller's own room, whose length is the read's. Whatever is
+/// made, replayed or traced comes by here, so this is where the counts are
+/// checked.
 pub fn perform_into(keeper: &mut Keeper, record: &Record, room: &mut [u8]) -> Answer {
+    let before = Counts::of(keeper);
+    let answer = call(keeper, record, room);
+    balance::check(before, record, &answer, Counts::of(keeper));
+    answer
+}
+
+fn call(keeper: &mut Keeper, record: &Record, room: &mut [u8]) -> Answer {
     match record {
         Record::Device {
             now,
@@ -102,13 +112,14 @@ fn line(step: &Step) -> String {
         ..
     } = step;
     let mut line = format!(
-        "{} {} {} {} {} {}",
+        "{} {} {} {} {} {} {}",
         answer.number,
         answer.delivered,
         keeper.input.count,
         keeper.blocking.count,
         answer.blocks,
-        answer.compressions
+        answer.compressions,
+        answer.added
     );
     if !bytes.is_empty() {
         line.push(' ');
@@ -134,7 +145,7 @@ mod tests {
     #[test]
     fn the_two_line_transcript() {
         let journal = journal(&[Record::Generator { now: 0, length: 4 }]);
-        assert_eq!(transcript(&journal), "2 0 0 0 0 0\nend 0\n");
+        assert_eq!(transcript(&journal), "2 0 0 0 0 0 0\nend 0\n");
     }
 
     #[test]
@@ -160,11 +171,11 @@ mod tests {
         let text = transcript(&journal);
         let lines: Vec<&str> = text.lines().collect();
         assert_eq!(lines.len(), 4);
-        assert_eq!(lines[0], "0 0 17920 0 0 32");
+        assert_eq!(lines[0], "0 0 17920 0 0 32 19968");
         let (numbers, hex) = lines[1].rsplit_once(' ').unwrap();
-        assert_eq!(numbers, "0 12 16896 0 0 20");
+        assert_eq!(numbers, "0 12 16896 0 0 20 768");
         assert_eq!(hex.len(), 24);
-        assert_eq!(lines[2], "3 0 16896 0 0 0");
+        assert_eq!(lines[2], "3 0 16896 0 0 0 0");
         assert_eq!(lines[3], "end 0");
     }
 
@@ -172,6 +183,6 @@ mod tests {
     fn a_record_that_ends_the_replay_has_no_line() {
         let mut journal = journal(&[Record::Blocking { now: 0, length: 1 }]);
         journal.push(9);
-        assert_eq!(transcript(&journal), "1 0 0 0 0 0\nend 11\n");
+        assert_eq!(transcript(&journal), "1 0 0 0 0 0 0\nend 11\n");
     }
 }

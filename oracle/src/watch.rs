@@ -2,10 +2,12 @@
 //! shows, whatever its maker had in mind.
 
 mod new_devices;
+mod worths;
 
 use std::collections::BTreeMap;
 
 use self::new_devices::NewDevices;
+use self::worths::Worths;
 
 use crate::credits::clock_difference;
 use crate::journal::{Record, HEADER, MARK, UNKNOWN_KIND, VERSION};
@@ -48,6 +50,7 @@ pub struct Fields {
     seeded: bool,
     seeding_clock: u32,
     count: u32,
+    blocking_count: u32,
     tally: u32,
     last_spill: u32,
     timers: [Timer; DEVICES],
@@ -59,6 +62,7 @@ impl Fields {
             seeded: keeper.seeded,
             seeding_clock: keeper.seeding_clock,
             count: keeper.input.count,
+            blocking_count: keeper.blocking.count,
             tally: keeper.tally,
             last_spill: keeper.last_spill,
             timers: keeper.timers,
@@ -87,6 +91,17 @@ struct Watch {
     /// The last spill, where it was one by time.
     timed: Option<TimedSpill>,
     new_devices: NewDevices,
+    worths: Worths,
+}
+
+/// What a record is that may seed a keeper for the first time.
+fn seeder(record: &Record) -> Option<Seeder> {
+    match record {
+        Record::Device { .. } => Some(Seeder::Event),
+        Record::Interrupt { .. } => Some(Seeder::Interrupt),
+        Record::Seed { .. } => Some(Seeder::Seed),
+        _ => None,
+    }
 }
 
 /// Whether a clock went through zero on its way over so many ticks.
@@ -125,12 +140,10 @@ impl Watch {
             _ => {}
         }
         if after.seeded && !self.before.seeded {
-            self.seeder = match step.record {
-                Record::Device { .. } => Some(Seeder::Event),
-                Record::Interrupt { .. } => Some(Seeder::Interrupt),
-                Record::Seed { .. } => Some(Seeder::Seed),
-                _ => None,
-            };
+            self.seeder = seeder(step.record);
+        }
+        for (situation, value) in self.worths.step(step, &self.before, &after) {
+            self.shown.see(situation, value);
         }
         self.before = after;
     }

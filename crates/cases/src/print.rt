@@ -16,13 +16,6 @@ pub fn end_line() {
     io::write_all(STDOUT_FILENO, b"\n");
 }
 
-// A line with a label and one number.
-pub fn one(text: &[u8], x: u64) {
-    label(text);
-    number(x);
-    end_line();
-}
-
 fn word(x: u32) {
     number(x as u64);
 }
@@ -41,6 +34,7 @@ pub fn plan(text: &[u8], p: Plan) {
     word(p.ledger.blocking.count);
     number(decide::stream_blocks(p.stream));
     number(decide::compressions_run(p));
+    word(p.added);
     word(p.ledger.seeding.mark);
     word(p.reseed);
     end_line();

@@ -1,7 +1,9 @@
 // P1 to P6: the estimate, clock differences, crediting.
 use crate::print;
+use ledger::Credited;
 use ledger::Timer;
 use ledger::sizes::EVENTS_BEFORE;
+use ledger::sizes::INPUT_SIZE;
 
 // Of a device of which three events came, an event at clock m has three differences of m where the timer is else fresh.
 fn estimate(m: u32) {
@@ -42,13 +44,21 @@ fn difference(text: &[u8], now: u32, before: u32) {
     }
 }
 
+// What a credit came to: the count afterwards and the units added.
+fn credited(text: &[u8], c: Credited) {
+    print::label(text);
+    print::number(c.count as u64);
+    print::number(c.added as u64);
+    print::end_line();
+}
+
 pub fn run() {
     estimates();
     difference(b"P3 clock 4 after 4294967295:", 4, 0xffff_ffff);
     difference(b"P4 clock 2147483648 after 0:", 0x8000_0000, 0);
-    print::one(b"P5 input 0, credit 1:", reckon::credit(32768, 0, 1) as u64);
-    print::one(
+    credited(b"P5 input 0, credit 1:", reckon::credit(INPUT_SIZE, 0, 1));
+    credited(
         b"P6 input 32762, credit 1:",
-        reckon::credit(32768, 32762, 1) as u64,
+        reckon::credit(INPUT_SIZE, 32762, 1),
     );
 }

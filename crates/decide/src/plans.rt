@@ -51,6 +51,7 @@ fn fresh_timer() -> Timer
 fn plan_of(
     number: u32,
     l: Ledger,
+    added: u32,
     stirs: bool,
     feeds: bool,
     reseed: u32,
@@ -58,12 +59,13 @@ fn plan_of(
     deliver: u32,
     stream: u32,
 ) -> Plan
-    ensures { λ r. ⌜ r ≡ planOf number l stirs feeds reseed transfer deliver stream ⌝ }
+    ensures { λ r. ⌜ r ≡ planOf number l added stirs feeds reseed transfer deliver stream ⌝ }
 {
     let t = fresh_timer();
     Plan {
         number: number,
         ledger: l,
+        added: added,
         timer: t,
         keeps: false,
         stirs: stirs,
@@ -79,7 +81,7 @@ fn plan_of(
 fn idle(number: u32, l: Ledger) -> Plan
     ensures { λ r. ⌜ r ≡ idle number l ⌝ }
 {
-    plan_of(number, l, false, false, 0, 0, 0, 0)
+    plan_of(number, l, 0, false, false, 0, 0, 0, 0)
 }
 
 // The input count becomes c, of which a reseed then takes t bytes: if it takes none, the marks of a seeding stay.
@@ -114,15 +116,16 @@ fn first_seeding(bits: u32, count: u32, l: Ledger) -> u32
     debit(32, 16, count)
 }
 
-// The call's bytes are mixed into the input pool and bits are credited.
+// The call's bytes are mixed into the input pool and bits are credited. What is told of the credit is what it added: a reseed that takes
+// from the new count comes after it.
 fn feed(now: u32, stirs: bool, bits: u32, l: Ledger) -> Plan
     requires { ⌜ (l .input .count ≤ inputSize) × (bits ≤ 8 * longest) ⌝ }
     ensures { λ r. ⌜ r ≡ feed now stirs bits l ⌝ }
 {
     let c = credit(INPUT_SIZE, l.input.count, bits);
-    let t = first_seeding(bits, c, l);
-    let n = reseeding(now, c, t, l);
-    plan_of(DONE, n, stirs, true, t, 0, 0, 0)
+    let t = first_seeding(bits, c.count, l);
+    let n = reseeding(now, c.count, t, l);
+    plan_of(DONE, n, c.added, stirs, true, t, 0, 0, 0)
 }
 
 // The same plan, with a timer that is kept.
@@ -202,7 +205,7 @@ fn plan_interrupt(now: u32, l: Ledger) -> Plan
     ensures { λ r. ⌜ r ≡ planInterrupt now l ⌝ }
 {
     if stays(now, l) {
-        return plan_of(DONE, tallied(l), true, false, 0, 0, 0, 0);
+        return plan_of(DONE, tallied(l), 0, true, false, 0, 0, 0, 0);
     }
     feed(now, true, 1, spilled(now, l))
 }
@@ -213,7 +216,7 @@ fn plan_write(len: usize, l: Ledger) -> Plan
     if LONGEST < len {
         return idle(TOO_LONG, l);
     }
-    plan_of(DONE, l, false, true, 0, 0, 0, 0)
+    plan_of(DONE, l, 0, false, true, 0, 0, 0, 0)
 }
 
 fn plan_seed(now: u32, len: usize, bits: u32, l: Ledger) -> Plan
@@ -253,7 +256,7 @@ fn plan_read(now: u32, len: usize, l: Ledger) -> Plan
     }
     let t = reseed_first(now, l);
     let n = reseeding(now, l.input.count, t, l);
-    plan_of(DONE, n, false, false, t, 0, 0, len as u32)
+    plan_of(DONE, n, 0, false, false, t, 0, 0, len as u32)
 }
 
 // What a blocking read of n asks of the input pool.
@@ -313,9 +316,9 @@ fn plan_blocking_read(len: usize, l: Ledger) -> Plan
     let n = len as u32;
     let t = transferred(n, l);
     let c = credit(BLOCKING_SIZE, l.blocking.count, 8 * t);
-    let d = debit(n, 0, c);
-    let m = with_counts(l.input.count - 64 * t, c - 64 * d, l);
-    plan_of(DONE, m, false, false, 0, t, d, 0)
+    let d = debit(n, 0, c.count);
+    let m = with_counts(l.input.count - 64 * t, c.count - 64 * d, l);
+    plan_of(DONE, m, c.added, false, false, 0, t, d, 0)
 }
 
 // ---- what code above calls, with any values

@@ -49,7 +49,7 @@ pub fn stream_blocks(len: u32) -> u64
     w
 }
 
-// The plan's number, what it hands out and what it costs.
+// The plan's number, what it hands out, what it costs and what its credit adds.
 pub fn answer_of(p: Plan) -> Answer
     requires { ⌜ Small p ⌝ }
     ensures { λ r. ⌜ r ≡ answerOf p ⌝ }
@@ -61,5 +61,6 @@ pub fn answer_of(p: Plan) -> Answer
         delivered: p.deliver + p.stream,
         blocks: blocks,
         compressions: compressions,
+        added: p.added,
     }
 }

@@ -35,7 +35,7 @@ answer-is c p k w =
     let given : length (d .bytes ++ (fromGenerator c p k) .bytes) ≡ p .deliver + p .stream = length-append (d .bytes) _ ∙ ap₂ _+_ ((laws blockingShape) .take-length (p .deliver) _) w in
     let runs = ap₂ _+_ (ap₂ _+_ ((laws inputShape) .take-runs (p .reseed) _) ((laws inputShape) .take-runs (p .transfer) (r .pool))) ((laws blockingShape) .take-runs (p .deliver) _) in
     let made = generated-blocks (p .stream) (ontoKey (r .bytes) (k .generator)) in
-    λ j. record { number = p .number; delivered = given j; blocks = made j; compressions = runs j }
+    λ j. record { number = p .number; delivered = given j; blocks = made j; compressions = runs j; added = p .added }
 
 -- ---- the blocking pool rests: nothing comes over, and nothing is delivered
 -- what is left to do then is the reseed's r, and the generator's bytes
@@ -43,7 +43,7 @@ abbrev pub streamedBy : Call → Plan → Keeper → Extract → Stream → Outc
 streamedBy c p k r s =
     record {
       keeper = keeperOf (withSpots (r .pool .spot) (k .ledger .blocking .spot) (p .ledger)) (timersAfter (deviceOf (public c)) p (timersIn k)) (r .pool .words) (k .blocking) (fastAfter c p k) (s .generator);
-      answer = record { number = p .number; delivered = length (s .bytes); blocks = s .blocks; compressions = r .runs };
+      answer = record { number = p .number; delivered = length (s .bytes); blocks = s .blocks; compressions = r .runs; added = p .added };
       bytes = s .bytes;
     }
 
@@ -70,10 +70,10 @@ rests-blocking c p k et ed =
     let runs : r .runs + 0 + 0 ≡ r .runs = omega arith in
     (λ j. record {
       keeper = keeperOf (withSpots ((t j) .pool .spot) ((b j) .pool .spot) (p .ledger)) (timersAfter (deviceOf (public c)) p (timersIn k)) ((t j) .pool .words) ((b j) .pool .words) (fastAfter c p k) (s .generator);
-      answer = record { number = p .number; delivered = length ((b j) .bytes ++ s .bytes); blocks = s .blocks; compressions = r .runs + (t j) .runs + (b j) .runs };
+      answer = record { number = p .number; delivered = length ((b j) .bytes ++ s .bytes); blocks = s .blocks; compressions = r .runs + (t j) .runs + (b j) .runs; added = p .added };
       bytes = (b j) .bytes ++ s .bytes;
     })
-    ∙ ap (λ (n : ℕ). record { keeper = (streamed c p k r) .keeper; answer = record { number = p .number; delivered = length (s .bytes); blocks = s .blocks; compressions = n }; bytes = s .bytes }) runs
+    ∙ ap (λ (n : ℕ). record { keeper = (streamed c p k r) .keeper; answer = record { number = p .number; delivered = length (s .bytes); blocks = s .blocks; compressions = n; added = p .added }; bytes = s .bytes }) runs
 
 -- ---- nothing goes onto the key, and the generator rests: bytes come over and are delivered
 pub key-rests : (t : ℕ) (q : Pool) (g : List ℕ) → t ≡ 0 → ontoKey ((extract inputShape t q) .bytes) g ≡ g
@@ -93,7 +93,7 @@ delivered c p k r =
     let d = extract blockingShape (p .deliver) (mix blockingShape (blockingPool k) (t .bytes)) in
     record {
       keeper = keeperOf (withSpots (t .pool .spot) (d .pool .spot) (p .ledger)) (timersAfter (deviceOf (public c)) p (timersIn k)) (t .pool .words) (d .pool .words) (fastAfter c p k) (k .generator);
-      answer = record { number = p .number; delivered = length (d .bytes); blocks = 0; compressions = r .runs + t .runs + d .runs };
+      answer = record { number = p .number; delivered = length (d .bytes); blocks = 0; compressions = r .runs + t .runs + d .runs; added = p .added };
       bytes = d .bytes;
     }
 
@@ -103,7 +103,7 @@ rests-generator c p k er es =
     let o = delivered c p k (forReseed c p k) in
     let over : Stream → List ℕ → Outcome = λ x bs. record {
       keeper = withGenerator (x .generator) (o .keeper);
-      answer = record { number = p .number; delivered = length bs; blocks = x .blocks; compressions = o .answer .compressions };
+      answer = record { number = p .number; delivered = length bs; blocks = x .blocks; compressions = o .answer .compressions; added = p .added };
       bytes = bs;
     } in
     ap (λ (x : Stream). over x (o .bytes ++ x .bytes)) (still-generator c p k er es)

@@ -10,3 +10,4 @@ pub mod Blocks
 pub mod Work
 pub mod KeyChange
 pub mod NewDevices
+pub mod Worth

@@ -16,7 +16,7 @@ use Rattle.ledger.proofs.Picks.{pick-both}
 use Rattle.pool.specs.Mixing.{mix}
 use Rattle.pool.proofs.Extracted.{laws}
 use Rattle.keeper.specs.Generator.{generated}
-use Rattle.keeper.specs.Record.{Outcome, refused, finished, fresh, view, blockingPool, roomAfter, made}
+use Rattle.keeper.specs.Record.{Outcome, refused, reached, finished, fresh, view, blockingPool, roomAfter, made}
 use Rattle.keeper.specs.Calls.{Call, public, deviceEvent, interrupted, written, seededWith, generatorRead, blockingReadOf}
 use Rattle.keeper.specs.Narrative.{eventCall, interruptCall, writeCall, seedCall, generate, readCall, deliver, blockingCall, act, told}
 use Rattle.keeper.specs.Obey.{forTransfer, obey, step}
@@ -56,7 +56,7 @@ pub room-stays : (n : ℕ) (k : Keeper) (room : List ℕ) → roomAfter room ((r
 room-stays n k room = refl
 
 -- a making from 48 bytes answers 0 and gives the fresh keeper; from any other number of bytes it answers 6 and leaves the record
-pub making-48 : (start : List ℕ) (k : Keeper) → length start ≡ 48 → made start k ≡ finished (fresh start, 0)
+pub making-48 : (start : List ℕ) (k : Keeper) → length start ≡ 48 → made start k ≡ finished (reached (fresh start))
 unfolding made pick
 making-48 start k h = rw (eq-eqb (length start) 48 h)
 

@@ -11,7 +11,7 @@ use borrow.Author.Tests.{ne-eqb}
 use Rattle.words.specs.Bytes.{bytesWords, wordsBytes}
 use Rattle.ledger.specs.Choice.{pick}
 use Rattle.ledger.specs.Shapes.{inputShape, blockingShape}
-use Rattle.ledger.specs.Credits.{credited, taken, debited, reseedTakes}
+use Rattle.ledger.specs.Credits.{credited, crediting, taken, debited, reseedTakes}
 use Rattle.ledger.specs.Clocks.{nextTimer, eventBits}
 use Rattle.ledger.specs.Marks.{isSeeded, inputCounts, blockingCounts, withSpots, valued, tallied, spilled, stays, reseedDue}
 use Rattle.ledger.specs.PublicCalls.{deviceOf}
@@ -26,7 +26,7 @@ use Rattle.pool.specs.Extracting.{Extract, extract}
 use Rattle.pool.proofs.Extracted.{laws, nothing}
 use Rattle.keeper.specs.FastPool.{stirred}
 use Rattle.keeper.specs.Generator.{xorAt, ontoKey, Stream, stream, generated}
-use Rattle.keeper.specs.Record.{timersIn, deviceTimer, inputPool, blockingPool, keeperOf, withLedger, withTimer, withInputPool, withBlockingPool, withFast, withGenerator, view, fine, Outcome, refused, finished}
+use Rattle.keeper.specs.Record.{timersIn, deviceTimer, inputPool, blockingPool, keeperOf, withLedger, withTimer, withInputPool, withBlockingPool, withFast, withGenerator, view, fine, Outcome, refused, Run, reached, adding, finished}
 use Rattle.keeper.specs.Calls.{Call, deviceEvent, interrupted, written, seededWith, generatorRead, blockingReadOf, public, eventBytes, stirredBy, payload}
 use Rattle.keeper.specs.Narrative.{mixInput, recountInput, recountBlocking, debitInput, rekey, reseed, creditInput, eventCall, interruptCall, writeCall, seedCall, generate, readCall, transfer, deliver, blockingCall, act, told}
 use Rattle.keeper.specs.Obey.{obey, step}
@@ -50,47 +50,49 @@ obey-pick c true p q k e f = e
 obey-pick c false p q k e f = f
 
 -- ---- mixed, credited, perhaps reseeded
--- from the keeper k, its input pool at a count of cc, of which t bytes go onto the key
-formFrom : ℕ → Keeper → ℕ → ℕ → Extract → Outcome
-formFrom now k cc t e =
+-- from the keeper k, its input pool at a count of cc, to which u units were added and of which t bytes go onto the key
+formFrom : ℕ → Keeper → ℕ → ℕ → ℕ → Extract → Outcome
+formFrom now k cc u t e =
     record {
       keeper =
           withLedger (withSpots (e .pool .spot) (k .ledger .blocking .spot) (reseeding now cc t (k .ledger)))
           (withGenerator (ontoKey (e .bytes) (k .generator)) (withInputPool (e .pool) k));
-      answer = record { number = 0; delivered = 0; blocks = 0; compressions = e .runs };
+      answer = record { number = 0; delivered = 0; blocks = 0; compressions = e .runs; added = u };
       bytes = [];
     }
 
-form : ℕ → Keeper → ℕ → ℕ → Outcome
-form now k cc t = formFrom now k cc t (extract inputShape t (inputPool k))
+form : ℕ → Keeper → ℕ → ℕ → ℕ → Outcome
+form now k cc u t = formFrom now k cc u t (extract inputShape t (inputPool k))
 
 -- at a count of cc with nothing taken
-unmoved : (now : ℕ) (k : Keeper) (cc : ℕ) → finished (recountInput cc k, 0) ≡ form now k cc 0
+unmoved : (now : ℕ) (k : Keeper) (cc u : ℕ) → finished (adding u (reached (recountInput cc k))) ≡ form now k cc u 0
 unfolding form formFrom pick xorAt bytesWords
-unmoved now k cc =
+unmoved now k cc u =
     let e : cc ≡ cc - 64 * 0 = omega arith in
-    ap (λ (n : ℕ). finished (recountInput n k, 0)) e ∙ sym (ap (formFrom now k cc 0) ((laws inputShape) .take-none (inputPool k)))
+    ap (λ (n : ℕ). finished (adding u (reached (recountInput n k)))) e ∙ sym (ap (formFrom now k cc u 0) ((laws inputShape) .take-none (inputPool k)))
+
+-- t bytes that were extracted go onto the key
+rekeyed : ℕ → ℕ → Extract → Keeper → Run
+rekeyed now t e k = record { keeper = rekey now e (debitInput t k); compressions = e .runs; added = 0 }
 
 -- a reseed of t bytes from a count of cc, in the paper's order
-reseeded : (now : ℕ) (k : Keeper) (cc t : ℕ)
+reseeded : (now : ℕ) (k : Keeper) (cc u t : ℕ)
     → let k₁ = recountInput cc k in
-    let e = extract inputShape t (inputPool k₁) in
-    finished (pick (eqb t 0) (k₁, 0) (rekey now e (debitInput t k₁), e .runs)) ≡ form now k cc t
-unfolding pick
-reseeded now k cc zero = unmoved now k cc
-reseeded now k cc (suc n) = rw (ne-eqb (suc n) 0 (λ e. omega arith)) (unfold form formFrom in rw (ne-eqb (suc n) 0 (λ e. omega arith)))
+    finished (adding u (pick (eqb t 0) (reached k₁) (rekeyed now t (extract inputShape t (inputPool k₁)) k₁))) ≡ form now k cc u t
+unfolding pick rekeyed
+reseeded now k cc u zero = unmoved now k cc u
+reseeded now k cc u (suc n) = rw (ne-eqb (suc n) 0 (λ e. omega arith)) (unfold form formFrom in rw (ne-eqb (suc n) 0 (λ e. omega arith)))
 
 -- the two ways to tell whether a reseed comes
-credits : (now : ℕ) (k : Keeper) (a s l : Bool) (cc t : ℕ) → (a ≡ true → cc ≡ k .ledger .input .count)
+credits : (now : ℕ) (k : Keeper) (a s l : Bool) (cc u t : ℕ) → (a ≡ true → cc ≡ k .ledger .input .count)
     → let k₁ = recountInput cc k in
-    let e = extract inputShape t (inputPool k₁) in
-    finished (pick a (k, 0) (pick (s && l) (pick (eqb t 0) (k₁, 0) (rekey now e (debitInput t k₁), e .runs)) (k₁, 0)))
-    ≡ form now k cc (pick (not a && (s && l)) t 0)
+    finished (adding u (pick a (reached k) (pick (s && l) (pick (eqb t 0) (reached k₁) (rekeyed now t (extract inputShape t (inputPool k₁)) k₁)) (reached k₁))))
+    ≡ form now k cc u (pick (not a && (s && l)) t 0)
 unfolding pick
-credits now k true s l cc t h = ap (λ (n : ℕ). finished (recountInput n k, 0)) (sym (h refl)) ∙ unmoved now k cc
-credits now k false true true cc t h = reseeded now k cc t
-credits now k false true false cc t h = unmoved now k cc
-credits now k false false l cc t h = unmoved now k cc
+credits now k true s l cc u t h = ap (λ (n : ℕ). finished (adding u (reached (recountInput n k)))) (sym (h refl)) ∙ unmoved now k cc u
+credits now k false true true cc u t h = reseeded now k cc u t
+credits now k false true false cc u t h = unmoved now k cc u
+credits now k false false l cc u t h = unmoved now k cc u
 
 credited-none : (S n count : ℕ) → eqb n 0 ≡ true → credited S n count ≡ count
 unfolding credited pick
@@ -104,23 +106,24 @@ base keeps stirs t l c k =
     keeperOf (withSpots (i .spot) (k .ledger .blocking .spot) l) (pick keeps (kept (deviceOf (public c)) t (timersIn k)) (timersIn k)) (i .words) (k .blocking) f (k .generator)
 
 -- a plan that feeds
-feeding : ℕ → Bool → Bool → Timer → Ledger → ℕ → ℕ → Plan
-feeding now keeps stirs tm l cc t =
-    record { number = 0; ledger = reseeding now cc t l; timer = tm; keeps = keeps; stirs = stirs; feeds = true; reseed = t; transfer = 0; deliver = 0; stream = 0 }
+feeding : ℕ → Bool → Bool → Timer → Ledger → ℕ → ℕ → ℕ → Plan
+feeding now keeps stirs tm l cc u t =
+    record { number = 0; ledger = reseeding now cc t l; added = u; timer = tm; keeps = keeps; stirs = stirs; feeds = true; reseed = t; transfer = 0; deliver = 0; stream = 0 }
 
-formed : (now : ℕ) (keeps stirs : Bool) (tm : Timer) (l : Ledger) (cc t : ℕ) (c : Call) (k : Keeper)
-    → form now (base keeps stirs tm l c k) cc t ≡ obey c (feeding now keeps stirs tm l cc t) k
+formed : (now : ℕ) (keeps stirs : Bool) (tm : Timer) (l : Ledger) (cc u t : ℕ) (c : Call) (k : Keeper)
+    → form now (base keeps stirs tm l c k) cc u t ≡ obey c (feeding now keeps stirs tm l cc u t) k
 unfolding form formFrom base feeding pick generated stream xorAt bytesWords
-formed now keeps stirs tm l cc t c k = sym (rests-blocking c (feeding now keeps stirs tm l cc t) k refl refl)
+formed now keeps stirs tm l cc u t c k = sym (rests-blocking c (feeding now keeps stirs tm l cc u t) k refl refl)
 
 feeds : (now n : ℕ) (keeps stirs : Bool) (tm : Timer) (l : Ledger) (c : Call) (k : Keeper)
-    → let cc = credited (inputShape .size) n (l .input .count) in
-    finished (creditInput now n (base keeps stirs tm l c k)) ≡ obey c (feeding now keeps stirs tm l cc (firstSeeding n cc l)) k
-unfolding creditInput reseed firstSeeding base
+    → let cc = crediting (inputShape .size) n (l .input .count) in
+    finished (creditInput now n (base keeps stirs tm l c k)) ≡ obey c (feeding now keeps stirs tm l (cc .count) (cc .added) (firstSeeding n (cc .count) l)) k
+unfolding creditInput reseed firstSeeding base rekeyed
 feeds now n keeps stirs tm l c k =
     let cc = credited (inputShape .size) n (l .input .count) in
-    credits now (base keeps stirs tm l c k) (eqb n 0) (not (isSeeded l)) (leb 1024 cc) cc (reseedTakes cc) (λ h. credited-none (inputShape .size) n (l .input .count) h)
-    ∙ formed now keeps stirs tm l cc (firstSeeding n cc l) c k
+    let u = cc - l .input .count in
+    credits now (base keeps stirs tm l c k) (eqb n 0) (not (isSeeded l)) (leb 1024 cc) cc u (reseedTakes cc) (λ h. credited-none (inputShape .size) n (l .input .count) h)
+    ∙ formed now keeps stirs tm l cc u (firstSeeding n cc l) c k
 
 -- ---- the calls, one by one
 fed-event : (device now stamp value : ℕ) (k : Keeper)
@@ -141,10 +144,10 @@ same-event device now stamp value k =
     obey-pick c _ _ _ k (rests 4 c k) (obey-pick c _ _ _ k (rests 7 c k) (fed-event device now stamp value k))
 
 only-stirs : (now number stamp address : ℕ) (k : Keeper)
-    → finished (withLedger (tallied (k .ledger)) (withFast (stirred now number stamp address (k .fast)) k), 0)
-    ≡ obey (interrupted now number stamp address) (planOf 0 (tallied (k .ledger)) true false 0 0 0 0) k
+    → finished (reached (withLedger (tallied (k .ledger)) (withFast (stirred now number stamp address (k .fast)) k)))
+    ≡ obey (interrupted now number stamp address) (planOf 0 (tallied (k .ledger)) 0 true false 0 0 0 0) k
 unfolding pick generated stream xorAt bytesWords
-only-stirs now number stamp address k = sym (unfed (interrupted now number stamp address) (planOf 0 (tallied (k .ledger)) true false 0 0 0 0) k refl refl refl refl)
+only-stirs now number stamp address k = sym (unfed (interrupted now number stamp address) (planOf 0 (tallied (k .ledger)) 0 true false 0 0 0 0) k refl refl refl refl)
 
 spills : (now number stamp address : ℕ) (k : Keeper)
     → let f = stirred now number stamp address (k .fast) in
@@ -160,10 +163,10 @@ unfolding interruptCall planInterrupt
 same-interrupt now number stamp address k =
     obey-pick (interrupted now number stamp address) _ _ _ k (only-stirs now number stamp address k) (spills now number stamp address k)
 
-mixes : (bs : List ℕ) (k : Keeper) → finished (mixInput bs k, 0) ≡ obey (written bs) (planOf 0 (k .ledger) false true 0 0 0 0) k
+mixes : (bs : List ℕ) (k : Keeper) → finished (reached (mixInput bs k)) ≡ obey (written bs) (planOf 0 (k .ledger) 0 false true 0 0 0 0) k
 unfolding pick generated stream xorAt bytesWords
 mixes bs k =
-    let p = planOf 0 (k .ledger) false true 0 0 0 0 in
+    let p = planOf 0 (k .ledger) 0 false true 0 0 0 0 in
     sym (rests-blocking (written bs) p k refl refl ∙ ap (streamed (written bs) p k) ((laws inputShape) .take-none (mix inputShape (inputPool k) bs)))
 
 same-write : (bs : List ℕ) (k : Keeper) → writeCall bs k ≡ obey (written bs) (planWrite (length bs) (k .ledger)) k
@@ -183,23 +186,22 @@ same-seed now bs credit k =
 
 -- a read that takes t bytes for a reseed first
 reads : (now len t : ℕ) (c : Call) (k : Keeper)
-    → let e = extract inputShape t (inputPool k) in
-    generate len (pick (eqb t 0) (k, 0) (rekey now e (debitInput t k), e .runs))
-    ≡ obey c (planOf 0 (reseeding now (k .ledger .input .count) t (k .ledger)) false false t 0 0 len) k
-unfolding pick generate xorAt bytesWords
+    → generate len (pick (eqb t 0) (reached k) (rekeyed now t (extract inputShape t (inputPool k)) k))
+    ≡ obey c (planOf 0 (reseeding now (k .ledger .input .count) t (k .ledger)) 0 false false t 0 0 len) k
+unfolding pick generate rekeyed xorAt bytesWords
 reads now len zero c k =
     let e : k .ledger .input .count ≡ k .ledger .input .count - 64 * 0 = omega arith in
-    ap (λ (n : ℕ). generate len (recountInput n k, 0)) e ∙ sym (unfed c (planOf 0 (reseeding now (k .ledger .input .count) 0 (k .ledger)) false false 0 0 0 len) k refl refl refl refl)
+    ap (λ (n : ℕ). generate len (reached (recountInput n k))) e ∙ sym (unfed c (planOf 0 (reseeding now (k .ledger .input .count) 0 (k .ledger)) 0 false false 0 0 0 len) k refl refl refl refl)
 reads now len (suc n) c k =
-    let p = planOf 0 (reseeding now (k .ledger .input .count) (suc n) (k .ledger)) false false (suc n) 0 0 len in
+    let p = planOf 0 (reseeding now (k .ledger .input .count) (suc n) (k .ledger)) 0 false false (suc n) 0 0 len in
     let r : obey c p k ≡ streamed c p k (extract inputShape (suc n) (inputPool k)) =
     rests-blocking c p k refl refl ∙ ap (λ (q : Pool). streamed c p k (extract inputShape (suc n) q)) ((laws inputShape) .mix-none (inputPool k)) in
     rw (ne-eqb (suc n) 0 (λ h. omega arith)) (rw (ne-eqb (suc n) 0 (λ h. omega arith)) at (sym r))
 
 reads-if : (now len : ℕ) (due : Bool) (c : Call) (k : Keeper)
-    → generate len (pick due (reseed now k) (k, 0))
-    ≡ obey c (planOf 0 (reseeding now (k .ledger .input .count) (pick due (reseedTakes (k .ledger .input .count)) 0) (k .ledger)) false false (pick due (reseedTakes (k .ledger .input .count)) 0) 0 0 len) k
-unfolding reseed pick
+    → generate len (pick due (reseed now k) (reached k))
+    ≡ obey c (planOf 0 (reseeding now (k .ledger .input .count) (pick due (reseedTakes (k .ledger .input .count)) 0) (k .ledger)) 0 false false (pick due (reseedTakes (k .ledger .input .count)) 0) 0 0 len) k
+unfolding reseed rekeyed pick
 reads-if now len true c k = reads now len (reseedTakes (k .ledger .input .count)) c k
 reads-if now len false c k = reads now len 0 c k
 
@@ -211,17 +213,19 @@ same-read now len k =
 
 -- t bytes brought over, then what is taken for n delivered
 draws : (n t : ℕ) (c : Call) (k : Keeper)
-    → let d = taken n 0 (refilled t (k .ledger)) in
-    deliver n (transfer t k) ≡ obey c (planOf 0 (blockingCounts (debited d (refilled t (k .ledger))) (inputCounts (debited t (k .ledger .input .count)) (k .ledger))) false false 0 t d 0) k
+    → let r = refilled t (k .ledger) in
+    let d = taken n 0 (r .count) in
+    deliver n (transfer t k) ≡ obey c (planOf 0 (blockingCounts (debited d (r .count)) (inputCounts (debited t (k .ledger .input .count)) (k .ledger))) (r .added) false false 0 t d 0) k
 unfolding deliver transfer pick
 draws n t c k =
-    let d = taken n 0 (refilled t (k .ledger)) in
-    let p = planOf 0 (blockingCounts (debited d (refilled t (k .ledger))) (inputCounts (debited t (k .ledger .input .count)) (k .ledger))) false false 0 t d 0 in
+    let r = refilled t (k .ledger) in
+    let d = taken n 0 (r .count) in
+    let p = planOf 0 (blockingCounts (debited d (r .count)) (inputCounts (debited t (k .ledger .input .count)) (k .ledger))) (r .added) false false 0 t d 0 in
     let o = delivered c p k (nothing (inputPool k)) in
     let x = extract inputShape t (inputPool k) in
     let y = extract blockingShape d (mix blockingShape (blockingPool k) (x .bytes)) in
     let z : x .runs + y .runs ≡ 0 + x .runs + y .runs = omega arith in
-    ap (λ (m : ℕ). record { keeper = o .keeper; answer = record { number = 0; delivered = length (y .bytes); blocks = 0; compressions = m }; bytes = y .bytes }) z
+    ap (λ (m : ℕ). record { keeper = o .keeper; answer = record { number = 0; delivered = length (y .bytes); blocks = 0; compressions = m; added = r .added }; bytes = y .bytes }) z
     ∙ sym (rests-generator c p k refl refl ∙ ap (delivered c p k) (untouched c p k refl refl))
 
 same-blocking : (n : ℕ) (k : Keeper) → blockingCall n k ≡ obey (blockingReadOf n) (planBlockingRead n (k .ledger)) k

@@ -18,8 +18,8 @@ keeperAfter k [] = k
 keeperAfter k (c ∷ cs) = keeperAfter ((told k c) .keeper) cs
 
 -- what an outcome shows: the ledger with the counts, the positions, device 0's last value, the tally, the last spill, the seeded mark and
--- the seeding clock; the timers; generator words 0 to 3; and the answer with its number, the delivered length and the work. That is all
--- but the words of the pools, of the fast pool and of the generator, and the bytes handed out.
+-- the seeding clock; the timers; generator words 0 to 3; and the answer with its number, the delivered length, the work and the units
+-- added. That is all but the words of the pools, of the fast pool and of the generator, and the bytes handed out.
 abbrev pub shown : Outcome → Shown
 shown o = record { view = view (o .keeper); answer = o .answer }
 

@@ -60,7 +60,7 @@ unfoldable pub obey : Call → Plan → Keeper → Outcome
 obey c p k =
     record {
       keeper = obeyed c p k;
-      answer = record { number = p .number; delivered = length (handedOut c p k); blocks = (fromGenerator c p k) .blocks; compressions = compressionsFor c p k };
+      answer = record { number = p .number; delivered = length (handedOut c p k); blocks = (fromGenerator c p k) .blocks; compressions = compressionsFor c p k; added = p .added };
       bytes = handedOut c p k;
     }
 

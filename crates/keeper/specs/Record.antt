@@ -13,6 +13,7 @@ use Rattle.ledger.specs.Marks.{placing, withInput, withBlocking, freshLedger}
 use Rattle.ledger.specs.Range.{View, inRange, fixedWords}
 use Rattle.ledger.specs.declared.Ledger.{Ledger}
 use Rattle.ledger.specs.declared.Timer.{Timer}
+use Rattle.ledger.specs.Plans.{bare}
 use Rattle.ledger.specs.declared.Answer.{Answer}
 use Rattle.pool.specs.Mixing.{Pool}
 use Rattle.keeper.specs.declared.Keeper.{Keeper}
@@ -70,16 +71,27 @@ pub record Outcome : Type 0 where
   pub answer : Answer
   pub bytes : List ℕ
 
--- a refusal changes nothing, delivers nothing and reports no work
+-- a refusal changes nothing, delivers nothing, reports no work and adds nothing
 abbrev pub refused : ℕ → Keeper → Outcome
-refused n k = record { keeper = k; answer = record { number = n; delivered = 0; blocks = 0; compressions = 0 }; bytes = [] }
+refused n k = record { keeper = k; answer = bare n; bytes = [] }
 
--- a keeper, and the compressions run so far; and the call that ends so, with nothing to hand out
-abbrev pub Run : Type 0
-Run = Keeper × ℕ
+-- a call so far: the keeper, the compressions run and the units that crediting added
+pub record Run : Type 0 where
+  pub keeper : Keeper
+  pub compressions : ℕ
+  pub added : ℕ
 
+-- nothing run and nothing added yet
+abbrev pub reached : Keeper → Run
+reached k = record { keeper = k; compressions = 0; added = 0 }
+
+-- so many units were added
+abbrev pub adding : ℕ → Run → Run
+adding n w = record { keeper = w .keeper; compressions = w .compressions; added = n }
+
+-- the call that ends so, with nothing to hand out
 abbrev pub finished : Run → Outcome
-finished w = record { keeper = w .0; answer = record { number = done; delivered = 0; blocks = 0; compressions = w .1 }; bytes = [] }
+finished w = record { keeper = w .keeper; answer = record { number = done; delivered = 0; blocks = 0; compressions = w .compressions; added = w .added }; bytes = [] }
 
 -- the output room afterwards: the bytes, and past them what was there
 abbrev pub roomAfter : List ℕ → List ℕ → List ℕ
@@ -87,4 +99,4 @@ roomAfter room bytes = bytes ++ drop (length bytes) room
 
 -- making a keeper in a record that is lent: 48 start bytes, else answer 6 and no keeper made
 unfoldable pub made : List ℕ → Keeper → Outcome
-made start k = pick (eqb (length start) startBytes) (finished (fresh start, 0)) (refused startNot48 k)
+made start k = pick (eqb (length start) startBytes) (finished (reached (fresh start))) (refused startNot48 k)

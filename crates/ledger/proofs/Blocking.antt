@@ -23,7 +23,7 @@ use Rattle.ledger.proofs.InRange.{Fine, fine-in-range, plan-at-is}
 
 -- the bytes that the rule hands out, before any refusal
 abbrev pub handed : ℕ → Ledger → ℕ
-handed n l = taken n 0 (refilled (transferred n l) l)
+handed n l = taken n 0 ((refilled (transferred n l) l) .count)
 
 -- the test of both thresholds, as facts
 is-low : (l : Ledger) → isLow l ≡ true → Low l
@@ -72,11 +72,11 @@ hands n l h b = go (ltb (l .blocking .count) 64) refl
         let i = ltb-false (l .input .count) 512 (rw e at b) in
         let o : 8 ≤ transferred n l = rw (lt-ltb (l .blocking .count) (64 * n) (omega arith)) ((taken-some (min (max n 8) 128) 8 (l .input .count) (omega arith) (omega arith) (omega arith) (omega arith)) .0) in
         let g = eight-are-64 (transferred n l) (l .blocking .count) o q in
-        (taken-some n 0 (refilled (transferred n l) l) (omega arith) (omega arith) h (omega arith)) .1
+        (taken-some n 0 ((refilled (transferred n l) l) .count) (omega arith) (omega arith) h (omega arith)) .1
     go false e =
         let q = ltb-false (l .blocking .count) 64 e in
         let g = credited-grows 8192 (8 * transferred n l) (l .blocking .count) in
-        (taken-some n 0 (refilled (transferred n l) l) (omega arith) (omega arith) h (omega arith)) .1
+        (taken-some n 0 ((refilled (transferred n l) l) .count) (omega arith) (omega arith) h (omega arith)) .1
 
 -- below both thresholds the read is refused with 1
 pub refused-if : (n : ℕ) (l : Ledger) → 1 ≤ n → n ≤ 4096 → Low l → (planBlockingRead n l) .number ≡ 1

@@ -230,12 +230,12 @@ record PlanFine (p : Plan) : Type 0 where
   timer : timerInRange (p .timer) ≡ true
 
 -- a plan that keeps no timer and leaves such a ledger
-plain-fine : (number : ℕ) (l : Ledger) (stirs feeds : Bool) (r t d s : ℕ) → LedgerFine l → PlanFine (planOf number l stirs feeds r t d s)
-plain-fine number l stirs feeds r t d s f = record { ledger = f; timer = refl }
+plain-fine : (number : ℕ) (l : Ledger) (added : ℕ) (stirs feeds : Bool) (r t d s : ℕ) → LedgerFine l → PlanFine (planOf number l added stirs feeds r t d s)
+plain-fine number l added stirs feeds r t d s f = record { ledger = f; timer = refl }
 
 -- nothing done
 idle-fine : (n : ℕ) (l : Ledger) → LedgerFine l → PlanFine (idle n l)
-idle-fine n l f = plain-fine n l false false 0 0 0 0 f
+idle-fine n l f = plain-fine n l _ false false 0 0 0 0 f
 
 -- a credit, with a first seeding or without
 feed-fine : (now : ℕ) (stirs : Bool) (n : ℕ) (l : Ledger) → LedgerFine l → PlanFine (feed now stirs n l)
@@ -262,7 +262,7 @@ interrupt-fine : (now : ℕ) (l : Ledger) → LedgerFine l → PlanFine (planInt
 unfolding planInterrupt
 interrupt-fine now l f =
     pick-by PlanFine (stays now l)
-    (λ e. plain-fine 0 (tallied l) true false 0 0 0 0 (record { input = f .input; blocking = f .blocking; tally = stay-tally _ (l .spill .tally) e }))
+    (λ e. plain-fine 0 (tallied l) 0 true false 0 0 0 0 (record { input = f .input; blocking = f .blocking; tally = stay-tally _ (l .spill .tally) e }))
     (λ e. feed-fine now true 1 (spilled now l) (record { input = f .input; blocking = f .blocking; tally = omega arith }))
 
 -- a generator read
@@ -285,7 +285,7 @@ plan-fine : (l : Ledger) (t : Timer) (c : PublicCall) → timerInRange t ≡ tru
 unfolding planCall planWrite planSeed
 plan-fine l t (event device now value) h f = event-fine device now value t l h f
 plan-fine l t (interrupt now number) h f = interrupt-fine now l f
-plan-fine l t (write len) h f = pick-both PlanFine _ (idle-fine 3 l f) (plain-fine 0 l false true 0 0 0 0 f)
+plan-fine l t (write len) h f = pick-both PlanFine _ (idle-fine 3 l f) (plain-fine 0 l 0 false true 0 0 0 0 f)
 plan-fine l t (seed now len credit) h f =
     pick-both PlanFine _ (idle-fine 3 l f) (pick-both PlanFine _ (idle-fine 5 l f) (feed-fine now false credit l f))
 plan-fine l t (read now len) h f = read-fine now len l f

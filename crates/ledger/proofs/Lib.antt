@@ -8,3 +8,4 @@ pub mod Marked
 pub mod KeptTimers
 pub mod NewDevices
 pub mod SmallPlans
+pub mod Worth

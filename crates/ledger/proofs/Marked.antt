@@ -8,7 +8,7 @@ use lib.IntN.{ℤ, pos, negsuc}
 use lib.ListN.{replicate, set}
 use Rattle.ledger.specs.Choice.{pick}
 use Rattle.ledger.specs.Places.{moved, movedBlocks, extractedFrom, costs}
-use Rattle.ledger.specs.Credits.{turnTakes, turnAdds, further, credited, taken}
+use Rattle.ledger.specs.Credits.{turnTakes, turnAdds, further, credited, crediting, furtherAdds, creditAdds, taken}
 use Rattle.ledger.specs.Clocks.{signed, clockDiff, log2, estimate, eventBits}
 use Rattle.ledger.specs.Marks.{withSeeding, isSeeded, freshLedger}
 use Rattle.ledger.specs.Timers.{freshTimers, timerOf, kept}
@@ -21,13 +21,14 @@ use Rattle.ledger.specs.declared.Timer.{Timer}
 use Rattle.ledger.proofs.InRange.{viewAfter}
 
 -- ---- how a row is written
--- a line has number, delivered, input count and blocking count afterwards, ChaCha20 blocks, compressions, and whether it is seeded
+-- a line has number, delivered, input count and blocking count afterwards, ChaCha20 blocks, compressions, units added, and whether it is
+-- seeded
 abbrev pub Line : Type 0
-Line = ℕ × ℕ × ℕ × ℕ × ℕ × ℕ × Bool
+Line = ℕ × ℕ × ℕ × ℕ × ℕ × ℕ × ℕ × Bool
 
 -- what an answer shows
 abbrev pub line : Shown → Line
-line s = (s .answer .number, s .answer .delivered, s .view .ledger .input .count, s .view .ledger .blocking .count, s .answer .blocks, s .answer .compressions, isSeeded (s .view .ledger))
+line s = (s .answer .number, s .answer .delivered, s .view .ledger .input .count, s .view .ledger .blocking .count, s .answer .blocks, s .answer .compressions, s .answer .added, isSeeded (s .view .ledger))
 
 -- the lines of calls made one after the other
 unfoldable pub linesFrom : View → List PublicCall → List Line
@@ -55,6 +56,10 @@ each v cs = numbers (map (λ c. (stepView v c) .answer .number) cs)
 -- what one call is answered at each of some views
 abbrev pub atEach : List View → PublicCall → Side
 atEach vs c = numbers (map (λ v. (stepView v c) .answer .number) vs)
+
+-- the count after n bits are credited to a pool of size S, and the units added
+abbrev pub credit : ℕ → ℕ → ℕ → Side
+credit S n count = let c = crediting S n count in numbers (c .count ∷ c .added ∷ [])
 
 -- a seed of just enough bytes for n bits, at clock 0
 abbrev pub bits : ℕ → PublicCall
@@ -104,32 +109,37 @@ table =
     -- P3, P4: clock 4 after 0xFFFFFFFF, and 0x80000000 after 0
     ∷ (differences (clockDiff 4 0xFFFFFFFF ∷ clockDiff 0x80000000 0 ∷ []), differences (pos 5 ∷ negsuc 2147483647 ∷ []))
     -- P5, P6: one bit onto 0 and onto 32,762
-    ∷ (numbers (credited 32768 1 0 ∷ credited 32768 1 32762 ∷ []), numbers (6 ∷ 32762 ∷ []))
+    ∷ (credit 32768 1 0, numbers (6 ∷ 6 ∷ []))
+    ∷ (credit 32768 1 32762, numbers (32762 ∷ 0 ∷ []))
     -- near the top a turn adds little, and turns go on as long as the count is below 32,766: 8,192 bits onto 32,760
-    ∷ (numbers (credited 32768 8192 32760 ∷ []), numbers (32766 ∷ []))
+    ∷ (credit 32768 8192 32760, numbers (32766 ∷ 6 ∷ []))
+    -- a credit of 0 adds nothing, whatever the count; onto a full pool nothing is added either
+    ∷ (credit 32768 0 5000, numbers (5000 ∷ 0 ∷ []))
+    ∷ (credit 32768 4096 32768, numbers (32768 ∷ 0 ∷ []))
     -- P7: 170 bits
-    ∷ (fresh (bits 170 ∷ []), lines ((0, 0, 1020, 0, 0, 0, false) ∷ []))
+    ∷ (fresh (bits 170 ∷ []), lines ((0, 0, 1020, 0, 0, 0, 1020, false) ∷ []))
     -- P8: 171 bits; 16 bytes are taken
-    ∷ (fresh (bits 171 ∷ []), lines ((0, 0, 2, 0, 0, 16, true) ∷ []))
+    ∷ (fresh (bits 171 ∷ []), lines ((0, 0, 2, 0, 0, 16, 1026, true) ∷ []))
     ∷ (numbers ((planAt freshView (bits 171)) .reseed ∷ []), numbers (16 ∷ []))
     -- P9: 256 bits; 24 bytes are taken
-    ∷ (fresh (bits 256 ∷ []), lines ((0, 0, 0, 0, 0, 24, true) ∷ []))
+    ∷ (fresh (bits 256 ∷ []), lines ((0, 0, 0, 0, 0, 24, 1536, true) ∷ []))
     ∷ (numbers ((planAt freshView (bits 256)) .reseed ∷ []), numbers (24 ∷ []))
     -- P10: 4,096 bits, whose two turns come to 12,288 and 19,968 and leave no rest; P11: straight after it, a blocking read of 16
     ∷ (numbers ((0 + turnAdds 32768 0 32768) ∷ (32768 - turnTakes 32768 32768) ∷ (12288 + turnAdds 32768 12288 16384) ∷ (16384 - turnTakes 32768 16384) ∷ credited 32768 4096 0 ∷ []), numbers (12288 ∷ 16384 ∷ 19968 ∷ 0 ∷ 19968 ∷ []))
-    ∷ (fresh (bits 4096 ∷ blockingRead 16 ∷ []), lines ((0, 0, 17920, 0, 0, 32, true) ∷ (0, 12, 16896, 0, 0, 20, true) ∷ []))
+    ∷ (numbers (creditAdds 32768 4096 0), numbers (12288 ∷ 7680 ∷ []))
+    ∷ (fresh (bits 4096 ∷ blockingRead 16 ∷ []), lines ((0, 0, 17920, 0, 0, 32, 19968, true) ∷ (0, 12, 16896, 0, 0, 20, 768, true) ∷ []))
     -- P12: generator reads of 32, 33, 64, 65 and 97 bytes with no reseed due
-    ∷ (fresh (bits 256 ∷ read 0 32 ∷ read 0 33 ∷ read 0 64 ∷ read 0 65 ∷ read 0 97 ∷ []), lines ((0, 0, 0, 0, 0, 24, true) ∷ (0, 32, 0, 0, 1, 0, true) ∷ (0, 33, 0, 0, 2, 0, true) ∷ (0, 64, 0, 0, 2, 0, true) ∷ (0, 65, 0, 0, 2, 0, true) ∷ (0, 97, 0, 0, 3, 0, true) ∷ []))
+    ∷ (fresh (bits 256 ∷ read 0 32 ∷ read 0 33 ∷ read 0 64 ∷ read 0 65 ∷ read 0 97 ∷ []), lines ((0, 0, 0, 0, 0, 24, 1536, true) ∷ (0, 32, 0, 0, 1, 0, 0, true) ∷ (0, 33, 0, 0, 2, 0, 0, true) ∷ (0, 64, 0, 0, 2, 0, 0, true) ∷ (0, 65, 0, 0, 2, 0, 0, true) ∷ (0, 97, 0, 0, 3, 0, 0, true) ∷ []))
     -- the shortest and the longest generator read, one whose used bytes are rounded up to 32, and two that use just 32 of the last block
-    ∷ (fresh (bits 256 ∷ read 0 1 ∷ read 0 4096 ∷ read 0 93 ∷ read 0 96 ∷ read 0 160 ∷ []), lines ((0, 0, 0, 0, 0, 24, true) ∷ (0, 1, 0, 0, 1, 0, true) ∷ (0, 4096, 0, 0, 65, 0, true) ∷ (0, 93, 0, 0, 2, 0, true) ∷ (0, 96, 0, 0, 2, 0, true) ∷ (0, 160, 0, 0, 3, 0, true) ∷ []))
+    ∷ (fresh (bits 256 ∷ read 0 1 ∷ read 0 4096 ∷ read 0 93 ∷ read 0 96 ∷ read 0 160 ∷ []), lines ((0, 0, 0, 0, 0, 24, 1536, true) ∷ (0, 1, 0, 0, 1, 0, 0, true) ∷ (0, 4096, 0, 0, 65, 0, 0, true) ∷ (0, 93, 0, 0, 2, 0, 0, true) ∷ (0, 96, 0, 0, 2, 0, 0, true) ∷ (0, 160, 0, 0, 3, 0, 0, true) ∷ []))
     -- a new device earns nothing: the event of 60 units on a fresh keeper
-    ∷ (fresh (event 1 1024 0 ∷ []), lines ((0, 0, 0, 0, 0, 0, false) ∷ []))
+    ∷ (fresh (event 1 1024 0 ∷ []), lines ((0, 0, 0, 0, 0, 0, 0, false) ∷ []))
     -- first to fifth event of a device, each with an estimate above 0: the fourth is the first that earns, by the clocks of all four
-    ∷ (fresh (event 1 1024 0 ∷ event 1 3000 0 ∷ event 1 7000 0 ∷ event 1 15000 0 ∷ event 1 31000 0 ∷ []), lines ((0, 0, 0, 0, 0, 0, false) ∷ (0, 0, 0, 0, 0, 0, false) ∷ (0, 0, 0, 0, 0, 0, false) ∷ (0, 0, 60, 0, 0, 0, false) ∷ (0, 0, 125, 0, 0, 0, false) ∷ []))
+    ∷ (fresh (event 1 1024 0 ∷ event 1 3000 0 ∷ event 1 7000 0 ∷ event 1 15000 0 ∷ event 1 31000 0 ∷ []), lines ((0, 0, 0, 0, 0, 0, 0, false) ∷ (0, 0, 0, 0, 0, 0, 0, false) ∷ (0, 0, 0, 0, 0, 0, 0, false) ∷ (0, 0, 60, 0, 0, 0, 60, false) ∷ (0, 0, 125, 0, 0, 0, 65, false) ∷ []))
     -- the same on device 0, with an event answered 7 in between, which does not count
-    ∷ (fresh (event 0 1024 1 ∷ event 0 2000 1 ∷ event 0 3000 2 ∷ event 0 7000 3 ∷ event 0 15000 4 ∷ event 0 31000 5 ∷ []), lines ((0, 0, 0, 0, 0, 0, false) ∷ (7, 0, 0, 0, 0, 0, false) ∷ (0, 0, 0, 0, 0, 0, false) ∷ (0, 0, 0, 0, 0, 0, false) ∷ (0, 0, 60, 0, 0, 0, false) ∷ (0, 0, 125, 0, 0, 0, false) ∷ []))
+    ∷ (fresh (event 0 1024 1 ∷ event 0 2000 1 ∷ event 0 3000 2 ∷ event 0 7000 3 ∷ event 0 15000 4 ∷ event 0 31000 5 ∷ []), lines ((0, 0, 0, 0, 0, 0, 0, false) ∷ (7, 0, 0, 0, 0, 0, 0, false) ∷ (0, 0, 0, 0, 0, 0, 0, false) ∷ (0, 0, 0, 0, 0, 0, 0, false) ∷ (0, 0, 60, 0, 0, 0, 60, false) ∷ (0, 0, 125, 0, 0, 0, 65, false) ∷ []))
     -- two devices in turn: each has a count of its own
-    ∷ (fresh (event 1 1024 0 ∷ event 2 1024 0 ∷ event 1 3000 0 ∷ event 2 3000 0 ∷ event 1 7000 0 ∷ event 2 7000 0 ∷ event 1 15000 0 ∷ event 2 15000 0 ∷ []), lines ((0, 0, 0, 0, 0, 0, false) ∷ (0, 0, 0, 0, 0, 0, false) ∷ (0, 0, 0, 0, 0, 0, false) ∷ (0, 0, 0, 0, 0, 0, false) ∷ (0, 0, 0, 0, 0, 0, false) ∷ (0, 0, 0, 0, 0, 0, false) ∷ (0, 0, 60, 0, 0, 0, false) ∷ (0, 0, 119, 0, 0, 0, false) ∷ []))
+    ∷ (fresh (event 1 1024 0 ∷ event 2 1024 0 ∷ event 1 3000 0 ∷ event 2 3000 0 ∷ event 1 7000 0 ∷ event 2 7000 0 ∷ event 1 15000 0 ∷ event 2 15000 0 ∷ []), lines ((0, 0, 0, 0, 0, 0, 0, false) ∷ (0, 0, 0, 0, 0, 0, 0, false) ∷ (0, 0, 0, 0, 0, 0, 0, false) ∷ (0, 0, 0, 0, 0, 0, 0, false) ∷ (0, 0, 0, 0, 0, 0, 0, false) ∷ (0, 0, 0, 0, 0, 0, 0, false) ∷ (0, 0, 60, 0, 0, 0, 60, false) ∷ (0, 0, 119, 0, 0, 0, 59, false) ∷ []))
     -- clock, d1 and d2 are kept from the first event on
     ∷ (numbers ((timerAfter 1 (event 1 1024 0 ∷ [])) .clock ∷ (timerAfter 1 (event 1 1024 0 ∷ event 1 3000 0 ∷ [])) .clock ∷ []), numbers (1024 ∷ 3000 ∷ []))
     ∷ (differences ((timerAfter 1 (event 1 1024 0 ∷ [])) .d1 ∷ (timerAfter 1 (event 1 1024 0 ∷ [])) .d2 ∷ []), differences (pos 1024 ∷ pos 1024 ∷ []))
@@ -139,49 +149,49 @@ table =
     ∷ (numbers ((viewAfter freshView (event 0 0 0 ∷ event 16 0 0 ∷ interrupt 0 0 ∷ bits 8 ∷ event 0 0 1 ∷ event 0 0 1 ∷ event 3 0 0 ∷ event 3 0 0 ∷ event 15 0 0 ∷ event 15 0 0 ∷ event 15 0 0 ∷ event 15 0 0 ∷ [])) .timers .came), numbers (1 ∷ 0 ∷ 0 ∷ 2 ∷ 0 ∷ 0 ∷ 0 ∷ 0 ∷ 0 ∷ 0 ∷ 0 ∷ 0 ∷ 0 ∷ 0 ∷ 0 ∷ 3 ∷ []))
     ∷ (numbers ((viewAfter (counts 32769 0) (event 3 0 0 ∷ [])) .timers .came), numbers (replicate 16 0))
     -- two that came are too few, three are enough
-    ∷ (from (came 2 1 freshView) (event 1 1024 0 ∷ []), lines ((0, 0, 0, 0, 0, 0, false) ∷ []))
-    ∷ (from (came 3 1 freshView) (event 1 1024 0 ∷ []), lines ((0, 0, 60, 0, 0, 0, false) ∷ []))
+    ∷ (from (came 2 1 freshView) (event 1 1024 0 ∷ []), lines ((0, 0, 0, 0, 0, 0, 0, false) ∷ []))
+    ∷ (from (came 3 1 freshView) (event 1 1024 0 ∷ []), lines ((0, 0, 60, 0, 0, 0, 60, false) ∷ []))
     -- an event of device 1, of which three came, at 1,500: 10 bits; then its clock runs back, and then it does not move
-    ∷ (from (came 3 1 freshView) (event 1 1500 0 ∷ event 1 0 0 ∷ event 1 0 0 ∷ []), lines ((0, 0, 60, 0, 0, 0, false) ∷ (0, 0, 119, 0, 0, 0, false) ∷ (0, 0, 119, 0, 0, 0, false) ∷ []))
+    ∷ (from (came 3 1 freshView) (event 1 1500 0 ∷ event 1 0 0 ∷ event 1 0 0 ∷ []), lines ((0, 0, 60, 0, 0, 0, 60, false) ∷ (0, 0, 119, 0, 0, 0, 59, false) ∷ (0, 0, 119, 0, 0, 0, 0, false) ∷ []))
     -- the least of the three amounts counts: all are 1,000, then d2 is 0, then d2 and d3 are 1,000
-    ∷ (from (came 3 2 freshView) (event 2 1000 0 ∷ event 2 2000 0 ∷ event 2 4000 0 ∷ []), lines ((0, 0, 54, 0, 0, 0, false) ∷ (0, 0, 54, 0, 0, 0, false) ∷ (0, 0, 107, 0, 0, 0, false) ∷ []))
+    ∷ (from (came 3 2 freshView) (event 2 1000 0 ∷ event 2 2000 0 ∷ event 2 4000 0 ∷ []), lines ((0, 0, 54, 0, 0, 0, 54, false) ∷ (0, 0, 54, 0, 0, 0, 0, false) ∷ (0, 0, 107, 0, 0, 0, 53, false) ∷ []))
     -- amounts at the ends of the range: d1 at its least twice, so that d2 is then 0, and d1 at its most, with d2 at its most
-    ∷ (from (came 3 2 freshView) (event 2 0x80000000 0 ∷ event 2 0 0 ∷ event 2 0x7FFFFFFF 0 ∷ []), lines ((0, 0, 66, 0, 0, 0, false) ∷ (0, 0, 66, 0, 0, 0, false) ∷ (0, 0, 131, 0, 0, 0, false) ∷ []))
+    ∷ (from (came 3 2 freshView) (event 2 0x80000000 0 ∷ event 2 0 0 ∷ event 2 0x7FFFFFFF 0 ∷ []), lines ((0, 0, 66, 0, 0, 0, 66, false) ∷ (0, 0, 66, 0, 0, 0, 0, false) ∷ (0, 0, 131, 0, 0, 0, 65, false) ∷ []))
     -- a reseed is due past 300,000 ticks and not at them, nor where the clock ran back; they count from the last reseed
-    ∷ (fresh (bits 4096 ∷ read 300000 1 ∷ read 300001 1 ∷ read 300000 1 ∷ read 0 1 ∷ read 600001 1 ∷ read 600002 1 ∷ []), lines ((0, 0, 17920, 0, 0, 32, true) ∷ (0, 1, 17920, 0, 1, 0, true) ∷ (0, 1, 15872, 0, 1, 32, true) ∷ (0, 1, 15872, 0, 1, 0, true) ∷ (0, 1, 15872, 0, 1, 0, true) ∷ (0, 1, 15872, 0, 1, 0, true) ∷ (0, 1, 13824, 0, 1, 32, true) ∷ []))
+    ∷ (fresh (bits 4096 ∷ read 300000 1 ∷ read 300001 1 ∷ read 300000 1 ∷ read 0 1 ∷ read 600001 1 ∷ read 600002 1 ∷ []), lines ((0, 0, 17920, 0, 0, 32, 19968, true) ∷ (0, 1, 17920, 0, 1, 0, 0, true) ∷ (0, 1, 15872, 0, 1, 32, 0, true) ∷ (0, 1, 15872, 0, 1, 0, 0, true) ∷ (0, 1, 15872, 0, 1, 0, 0, true) ∷ (0, 1, 15872, 0, 1, 0, 0, true) ∷ (0, 1, 13824, 0, 1, 32, 0, true) ∷ []))
     -- half the clock's range ahead reads as a clock that ran back; one less is the longest wait
-    ∷ (fresh (bits 4096 ∷ read 0x80000000 1 ∷ read 0x7FFFFFFF 1 ∷ []), lines ((0, 0, 17920, 0, 0, 32, true) ∷ (0, 1, 17920, 0, 1, 0, true) ∷ (0, 1, 15872, 0, 1, 32, true) ∷ []))
+    ∷ (fresh (bits 4096 ∷ read 0x80000000 1 ∷ read 0x7FFFFFFF 1 ∷ []), lines ((0, 0, 17920, 0, 0, 32, 19968, true) ∷ (0, 1, 17920, 0, 1, 0, 0, true) ∷ (0, 1, 15872, 0, 1, 32, 0, true) ∷ []))
     -- a reseed that is due and finds fewer than 16 bytes changes nothing, and stays due
-    ∷ (fresh (bits 171 ∷ read 300001 1 ∷ bits 256 ∷ read 300001 1 ∷ []), lines ((0, 0, 2, 0, 0, 16, true) ∷ (0, 1, 2, 0, 1, 0, true) ∷ (0, 0, 1537, 0, 0, 0, true) ∷ (0, 1, 1, 0, 1, 24, true) ∷ []))
+    ∷ (fresh (bits 171 ∷ read 300001 1 ∷ bits 256 ∷ read 300001 1 ∷ []), lines ((0, 0, 2, 0, 0, 16, 1026, true) ∷ (0, 1, 2, 0, 1, 0, 0, true) ∷ (0, 0, 1537, 0, 0, 0, 1535, true) ∷ (0, 1, 1, 0, 1, 24, 0, true) ∷ []))
     -- the least of a reseed is 16: 961 units are 15 bytes, and none is taken; 1,030 are 16
-    ∷ (fresh (bits 171 ∷ bits 160 ∷ read 300001 1 ∷ bits 12 ∷ read 300001 1 ∷ []), lines ((0, 0, 2, 0, 0, 16, true) ∷ (0, 0, 961, 0, 0, 0, true) ∷ (0, 1, 961, 0, 1, 0, true) ∷ (0, 0, 1030, 0, 0, 0, true) ∷ (0, 1, 6, 0, 1, 16, true) ∷ []))
+    ∷ (fresh (bits 171 ∷ bits 160 ∷ read 300001 1 ∷ bits 12 ∷ read 300001 1 ∷ []), lines ((0, 0, 2, 0, 0, 16, 1026, true) ∷ (0, 0, 961, 0, 0, 0, 959, true) ∷ (0, 1, 961, 0, 1, 0, 0, true) ∷ (0, 0, 1030, 0, 0, 0, 69, true) ∷ (0, 1, 6, 0, 1, 16, 0, true) ∷ []))
     -- an interrupt spills past 1,000 ticks and not at them, nor where the clock ran back
-    ∷ (fresh (interrupt 1000 7 ∷ interrupt 0xFFFFFFFF 7 ∷ interrupt 1001 7 ∷ interrupt 2001 7 ∷ interrupt 1000 7 ∷ interrupt 2002 7 ∷ []), lines ((0, 0, 0, 0, 0, 0, false) ∷ (0, 0, 0, 0, 0, 0, false) ∷ (0, 0, 6, 0, 0, 0, false) ∷ (0, 0, 6, 0, 0, 0, false) ∷ (0, 0, 6, 0, 0, 0, false) ∷ (0, 0, 11, 0, 0, 0, false) ∷ []))
+    ∷ (fresh (interrupt 1000 7 ∷ interrupt 0xFFFFFFFF 7 ∷ interrupt 1001 7 ∷ interrupt 2001 7 ∷ interrupt 1000 7 ∷ interrupt 2002 7 ∷ []), lines ((0, 0, 0, 0, 0, 0, 0, false) ∷ (0, 0, 0, 0, 0, 0, 0, false) ∷ (0, 0, 6, 0, 0, 0, 6, false) ∷ (0, 0, 6, 0, 0, 0, 0, false) ∷ (0, 0, 6, 0, 0, 0, 0, false) ∷ (0, 0, 11, 0, 0, 0, 5, false) ∷ []))
     -- the 64th interrupt in a row spills: not the 63rd and not the 65th
-    ∷ (from (viewAfter freshView (replicate 62 (interrupt 0 7))) (interrupt 0 7 ∷ interrupt 0 7 ∷ interrupt 0 7 ∷ []), lines ((0, 0, 0, 0, 0, 0, false) ∷ (0, 0, 6, 0, 0, 0, false) ∷ (0, 0, 6, 0, 0, 0, false) ∷ []))
+    ∷ (from (viewAfter freshView (replicate 62 (interrupt 0 7))) (interrupt 0 7 ∷ interrupt 0 7 ∷ interrupt 0 7 ∷ []), lines ((0, 0, 0, 0, 0, 0, 0, false) ∷ (0, 0, 6, 0, 0, 0, 6, false) ∷ (0, 0, 6, 0, 0, 0, 0, false) ∷ []))
     -- .. and a spill starts the tally again: the 64th after it spills, not the 63rd
-    ∷ (from (viewAfter freshView (interrupt 1001 7 ∷ replicate 62 (interrupt 1001 7))) (interrupt 1001 7 ∷ interrupt 1001 7 ∷ []), lines ((0, 0, 6, 0, 0, 0, false) ∷ (0, 0, 11, 0, 0, 0, false) ∷ []))
+    ∷ (from (viewAfter freshView (interrupt 1001 7 ∷ replicate 62 (interrupt 1001 7))) (interrupt 1001 7 ∷ interrupt 1001 7 ∷ []), lines ((0, 0, 6, 0, 0, 0, 0, false) ∷ (0, 0, 11, 0, 0, 0, 5, false) ∷ []))
     -- the first seeding comes at exactly 1,024
-    ∷ (fresh (bits 169 ∷ bits 1 ∷ bits 1 ∷ []), lines ((0, 0, 1014, 0, 0, 0, false) ∷ (0, 0, 1019, 0, 0, 0, false) ∷ (0, 0, 0, 0, 0, 16, true) ∷ []))
+    ∷ (fresh (bits 169 ∷ bits 1 ∷ bits 1 ∷ []), lines ((0, 0, 1014, 0, 0, 0, 1014, false) ∷ (0, 0, 1019, 0, 0, 0, 5, false) ∷ (0, 0, 0, 0, 0, 16, 5, true) ∷ []))
     -- and not at 1,023
-    ∷ (fresh (bits 168 ∷ bits 1 ∷ bits 1 ∷ bits 1 ∷ bits 1 ∷ []), lines ((0, 0, 1008, 0, 0, 0, false) ∷ (0, 0, 1013, 0, 0, 0, false) ∷ (0, 0, 1018, 0, 0, 0, false) ∷ (0, 0, 1023, 0, 0, 0, false) ∷ (0, 0, 4, 0, 0, 16, true) ∷ []))
+    ∷ (fresh (bits 168 ∷ bits 1 ∷ bits 1 ∷ bits 1 ∷ bits 1 ∷ []), lines ((0, 0, 1008, 0, 0, 0, 1008, false) ∷ (0, 0, 1013, 0, 0, 0, 5, false) ∷ (0, 0, 1018, 0, 0, 0, 5, false) ∷ (0, 0, 1023, 0, 0, 0, 5, false) ∷ (0, 0, 4, 0, 0, 16, 5, true) ∷ []))
     -- it comes after an event's and an interrupt's credit too
-    ∷ (from (counts 1019 0) (interrupt 1001 7 ∷ []), lines ((0, 0, 0, 0, 0, 16, true) ∷ []))
-    ∷ (from (came 3 3 (counts 1019 0)) (event 3 2 0 ∷ []), lines ((0, 0, 0, 0, 0, 16, true) ∷ []))
+    ∷ (from (counts 1019 0) (interrupt 1001 7 ∷ []), lines ((0, 0, 0, 0, 0, 16, 5, true) ∷ []))
+    ∷ (from (came 3 3 (counts 1019 0)) (event 3 2 0 ∷ []), lines ((0, 0, 0, 0, 0, 16, 5, true) ∷ []))
     -- .. and its clock is that call's: after each, with credit enough, a reseed is due past 300,000 ticks and not at them
-    ∷ (from (counts 1019 0) (interrupt 1001 7 ∷ bits 4096 ∷ read 301001 1 ∷ read 301002 1 ∷ []), lines ((0, 0, 0, 0, 0, 16, true) ∷ (0, 0, 19968, 0, 0, 0, true) ∷ (0, 1, 19968, 0, 1, 0, true) ∷ (0, 1, 17920, 0, 1, 32, true) ∷ []))
-    ∷ (from (came 3 3 (counts 1019 0)) (event 3 2 0 ∷ bits 4096 ∷ read 300002 1 ∷ read 300003 1 ∷ []), lines ((0, 0, 0, 0, 0, 16, true) ∷ (0, 0, 19968, 0, 0, 0, true) ∷ (0, 1, 19968, 0, 1, 0, true) ∷ (0, 1, 17920, 0, 1, 32, true) ∷ []))
+    ∷ (from (counts 1019 0) (interrupt 1001 7 ∷ bits 4096 ∷ read 301001 1 ∷ read 301002 1 ∷ []), lines ((0, 0, 0, 0, 0, 16, 5, true) ∷ (0, 0, 19968, 0, 0, 0, 19968, true) ∷ (0, 1, 19968, 0, 1, 0, 0, true) ∷ (0, 1, 17920, 0, 1, 32, 0, true) ∷ []))
+    ∷ (from (came 3 3 (counts 1019 0)) (event 3 2 0 ∷ bits 4096 ∷ read 300002 1 ∷ read 300003 1 ∷ []), lines ((0, 0, 0, 0, 0, 16, 5, true) ∷ (0, 0, 19968, 0, 0, 0, 19968, true) ∷ (0, 1, 19968, 0, 1, 0, 0, true) ∷ (0, 1, 17920, 0, 1, 32, 0, true) ∷ []))
     -- an unseeded count above 1,024 waits for a credit above 0: a write, a seed of 0 bits, a credit of 1
-    ∷ (from (came 3 3 (counts 2000 0)) (write 64 ∷ bits 0 ∷ event 3 1 0 ∷ bits 1 ∷ []), lines ((0, 0, 2000, 0, 0, 0, false) ∷ (0, 0, 2000, 0, 0, 0, false) ∷ (0, 0, 2000, 0, 0, 0, false) ∷ (0, 0, 21, 0, 0, 32, true) ∷ []))
+    ∷ (from (came 3 3 (counts 2000 0)) (write 64 ∷ bits 0 ∷ event 3 1 0 ∷ bits 1 ∷ []), lines ((0, 0, 2000, 0, 0, 0, 0, false) ∷ (0, 0, 2000, 0, 0, 0, 0, false) ∷ (0, 0, 2000, 0, 0, 0, 0, false) ∷ (0, 0, 21, 0, 0, 32, 5, true) ∷ []))
     -- blocking reads at the thresholds: 63 and 511 are refused; 512 of input or 64 of blocking give a byte or more
-    ∷ (from (counts 511 63) (blockingRead 1 ∷ []), lines ((1, 0, 511, 63, 0, 0, false) ∷ []))
-    ∷ (from (counts 512 0) (blockingRead 1 ∷ []), lines ((0, 1, 0, 320, 0, 10, false) ∷ []))
-    ∷ (from (counts 0 64) (blockingRead 1 ∷ []), lines ((0, 1, 0, 0, 0, 2, false) ∷ []))
+    ∷ (from (counts 511 63) (blockingRead 1 ∷ []), lines ((1, 0, 511, 63, 0, 0, 0, false) ∷ []))
+    ∷ (from (counts 512 0) (blockingRead 1 ∷ []), lines ((0, 1, 0, 320, 0, 10, 384, false) ∷ []))
+    ∷ (from (counts 0 64) (blockingRead 1 ∷ []), lines ((0, 1, 0, 0, 0, 2, 0, false) ∷ []))
     -- the least that is brought over is 8: with 511 units of input a read of 2 gets the one byte that the blocking pool has
-    ∷ (from (counts 511 64) (blockingRead 2 ∷ []), lines ((0, 1, 511, 0, 0, 2, false) ∷ []))
+    ∷ (from (counts 511 64) (blockingRead 2 ∷ []), lines ((0, 1, 511, 0, 0, 2, 0, false) ∷ []))
     -- a blocking read brings over 128 bytes at most, and none where the blocking pool has enough
-    ∷ (from (counts 32768 0) (blockingRead 4096 ∷ []), lines ((0, 78, 24576, 0, 0, 120, false) ∷ []))
-    ∷ (from (counts 32768 640) (blockingRead 10 ∷ []), lines ((0, 10, 32768, 0, 0, 2, false) ∷ []))
+    ∷ (from (counts 32768 0) (blockingRead 4096 ∷ []), lines ((0, 78, 24576, 0, 0, 120, 4992, false) ∷ []))
+    ∷ (from (counts 32768 640) (blockingRead 10 ∷ []), lines ((0, 10, 32768, 0, 0, 2, 0, false) ∷ []))
     -- a fresh ledger is all zero
     ∷ (numbers (freshLedger .input .count ∷ freshLedger .blocking .count ∷ freshLedger .value ∷ freshLedger .spill .tally ∷ freshLedger .spill .clock ∷ freshLedger .seeding .mark ∷ freshLedger .seeding .clock ∷ spotsAfter freshView []), numbers (replicate 11 0))
     -- the position falls by one a byte and the rotation grows by 7, or by 14 at position 0: after 1, 127, 128 and 129 bytes
@@ -201,9 +211,9 @@ table =
     -- number 4: past 15, tested before 7; number 5: above 8 bits a byte
     ∷ (each freshView (event 16 5 0 ∷ event 15 5 0 ∷ seed 0 1 9 ∷ seed 0 1 8 ∷ seed 0 0 1 ∷ []), numbers (4 ∷ 0 ∷ 5 ∷ 0 ∷ 5 ∷ []))
     -- number 7: on device 0 alone, where fresh keeps 0; the last value that was kept counts
-    ∷ (fresh (event 0 5 0 ∷ event 1 0 0 ∷ event 0 0 9 ∷ event 0 1 9 ∷ event 0 0 0 ∷ []), lines ((7, 0, 0, 0, 0, 0, false) ∷ (0, 0, 0, 0, 0, 0, false) ∷ (0, 0, 0, 0, 0, 0, false) ∷ (7, 0, 0, 0, 0, 0, false) ∷ (0, 0, 0, 0, 0, 0, false) ∷ []))
+    ∷ (fresh (event 0 5 0 ∷ event 1 0 0 ∷ event 0 0 9 ∷ event 0 1 9 ∷ event 0 0 0 ∷ []), lines ((7, 0, 0, 0, 0, 0, 0, false) ∷ (0, 0, 0, 0, 0, 0, 0, false) ∷ (0, 0, 0, 0, 0, 0, 0, false) ∷ (7, 0, 0, 0, 0, 0, 0, false) ∷ (0, 0, 0, 0, 0, 0, 0, false) ∷ []))
     -- .. and the value of another device does not
-    ∷ (fresh (event 1 0 9 ∷ event 0 0 9 ∷ event 0 0 9 ∷ []), lines ((0, 0, 0, 0, 0, 0, false) ∷ (0, 0, 0, 0, 0, 0, false) ∷ (7, 0, 0, 0, 0, 0, false) ∷ []))
+    ∷ (fresh (event 1 0 9 ∷ event 0 0 9 ∷ event 0 0 9 ∷ []), lines ((0, 0, 0, 0, 0, 0, 0, false) ∷ (0, 0, 0, 0, 0, 0, 0, false) ∷ (7, 0, 0, 0, 0, 0, 0, false) ∷ []))
     -- number 17 is tested first in every call
     ∷ (each (counts 32769 0) (event 16 0 0 ∷ event 0 0 0 ∷ interrupt 0 0 ∷ write 4097 ∷ seed 0 1 9 ∷ read 0 0 ∷ read 0 1 ∷ blockingRead 0 ∷ blockingRead 1 ∷ []), numbers (17 ∷ 17 ∷ 17 ∷ 17 ∷ 17 ∷ 17 ∷ 17 ∷ 17 ∷ 17 ∷ []))
     -- in range: every limit at once, d1 and d2 at both ends
@@ -219,5 +229,5 @@ table =
 
 -- in every row, what the definitions give is what it has to be
 pub marked : map (λ (row : Side × Side). row .0) table ≡ map (λ (row : Side × Side). row .1) table
-unfolding pick signed log2 estimate eventBits further credited taken ledgerInRange othersInRange moved movedBlocks extractedFrom costs firstSeeding feed planEvent planInterrupt planWrite planSeed planRead planBlockingRead planCall decide inputMoved blockingMoved planned stepView viewAfter linesFrom
+unfolding pick signed log2 estimate eventBits further credited furtherAdds creditAdds taken ledgerInRange othersInRange moved movedBlocks extractedFrom costs firstSeeding feed planEvent planInterrupt planWrite planSeed planRead planBlockingRead planCall decide inputMoved blockingMoved planned stepView viewAfter linesFrom
 marked = refl

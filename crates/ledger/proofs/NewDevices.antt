@@ -49,21 +49,22 @@ pub earned-by-clocks : (device now : ℕ) (cs : List PublicCall) → device < de
 earned-by-clocks device now cs h = ap (eventBits now) (timer-by-clocks device cs h) ∙ earned-by now (keptClocks device cs)
 
 -- ---- a device's first three kept events
--- a plan that leaves the counts and the seeding, and works nothing
+-- a plan that leaves the counts and the seeding, works nothing and adds nothing
 record Unpaid (l : Ledger) (p : Plan) : Type 0 where
   input : p .ledger .input .count ≡ l .input .count
   blocking : p .ledger .blocking .count ≡ l .blocking .count
   seeding : p .ledger .seeding ≡ l .seeding
   compressions : compressionsRun p ≡ 0
+  added : p .added ≡ 0
 
 idle-unpaid : (n : ℕ) (l : Ledger) → Unpaid l (idle n l)
 unfolding costs
-idle-unpaid n l = record { input = refl; blocking = refl; seeding = refl; compressions = refl }
+idle-unpaid n l = record { input = refl; blocking = refl; seeding = refl; compressions = refl; added = refl }
 
 -- a credit of 0 bits
 feed-unpaid : (d now value n : ℕ) (t : Timer) (l : Ledger) → n ≡ 0 → Unpaid l (keeping t (feed now false n (valued d value l)))
 unfolding feed firstSeeding credited costs pick
-feed-unpaid d now value n t l e = rw e (record { input = omega arith; blocking = refl; seeding = refl; compressions = refl })
+feed-unpaid d now value n t l e = rw e (record { input = omega arith; blocking = refl; seeding = refl; compressions = refl; added = omega arith })
 
 -- an event that earns 0 bits
 event-unpaid : (others : Bool) (l : Ledger) (t : Timer) (d now value : ℕ) → eventBits now t ≡ 0 → Unpaid l (decide others l t (event d now value))
@@ -90,4 +91,4 @@ nothing-at-first device now value cs h k =
     let v = viewAfter freshView cs in
     let e = earned-by-clocks device now cs h ∙ few now (keptClocks device cs) k in
     let u = event-unpaid (othersInRange (v .timers) (v .fixed)) (v .ledger) (timerOf (v .timers) device) device now value e in
-    record { input = u .input; blocking = u .blocking; seeding = u .seeding; compressions = u .compressions }
+    record { input = u .input; blocking = u .blocking; seeding = u .seeding; compressions = u .compressions; added = u .added }

@@ -46,7 +46,7 @@ call-small l t (read now len) =
 call-small l t (blockingRead n) =
     pick-by Small (ltb longest n) (λ h. none 3 l) (λ h. let e = ltb-false longest n h in
     pick-both Small _ (none 0 l) (pick-both Small _ (none 1 l)
-    (record { reseed = omega arith; transfer = transfer-few n l; deliver = omega (arith, taken-wanted n 0 (refilled (transferred n l) l)); stream = omega arith })))
+    (record { reseed = omega arith; transfer = transfer-few n l; deliver = omega (arith, taken-wanted n 0 ((refilled (transferred n l) l) .count)); stream = omega arith })))
 
 pub small : (others : Bool) (l : Ledger) (t : Timer) (c : PublicCall) → Small (decide others l t c)
 unfolding decide

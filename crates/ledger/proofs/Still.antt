@@ -1,5 +1,5 @@
--- What does not move: a call that is not answered 0 changes nothing that is public and reports no work, no call delivers more than was
--- asked for, and a seeded keeper stays seeded.
+-- What does not move: a call that is not answered 0 changes nothing that is public, reports no work and adds nothing, no call delivers
+-- more than was asked for, and a seeded keeper stays seeded.
 use mathlib.Core.Path.{_≡_, refl}
 use mathlib.Core.Bool.{Bool, true}
 use Prim.Native.Nat.{ℕ, _+_, _≤_}
@@ -12,7 +12,7 @@ use Rattle.ledger.specs.Timers.{timerOf}
 use Rattle.ledger.specs.Range.{View, othersInRange}
 use Rattle.ledger.specs.Marks.{seedingAt}
 use Rattle.ledger.specs.PublicCalls.{PublicCall, event, interrupt, write, seed, read, blockingRead, asked, deviceOf}
-use Rattle.ledger.specs.Plans.{idle, feed, transferred, refilled, planEvent, planInterrupt, planWrite, planSeed, planRead, planBlockingRead, planCall, decide}
+use Rattle.ledger.specs.Plans.{idle, feed, transferred, refilled, planEvent, planInterrupt, planWrite, planSeed, planRead, planBlockingRead, planCall, decide, bare}
 use Rattle.ledger.specs.Machine.{Shown, inputMoved, blockingMoved, planned, planAt, stepView}
 use Rattle.ledger.specs.declared.Ledger.{Ledger}
 use Rattle.ledger.specs.declared.Plan.{Plan}
@@ -42,9 +42,9 @@ decide-still : (others : Bool) (l : Ledger) (t : Timer) (c : PublicCall) → Sti
 unfolding decide
 decide-still others l t c = pick-both (Still l) _ (plan-still l t c) (rests refl)
 
--- an answer n that shows a view as it was, and no work
+-- an answer n that shows a view as it was, and no more than its number
 abbrev pub unmoved : ℕ → View → Shown
-unmoved n v = record { view = v; answer = record { number = n; delivered = 0; blocks = 0; compressions = 0 } }
+unmoved n v = record { view = v; answer = bare n }
 
 -- doing nothing shows the view as it was
 idle-unmoved : (n : ℕ) (c : PublicCall) (v : View) → planned c (idle n (v .ledger)) v ≡ unmoved n v
@@ -83,7 +83,7 @@ blocking-asked : (n : ℕ) (l : Ledger) → AtMost n (planBlockingRead n l)
 unfolding planBlockingRead
 blocking-asked n l =
     let P = AtMost n in
-    let w = taken-wanted n 0 (refilled (transferred n l) l) in
+    let w = taken-wanted n 0 ((refilled (transferred n l) l) .count) in
     pick-by P (ltb 4096 n) (λ h. none n 3 l) (λ h. let e = ltb-false 4096 n h in
     pick-both P _ (none n 0 l) (pick-both P _ (none n 1 l) (record { wanted = omega (arith, w); limit = omega (arith, w) })))
 

@@ -1,8 +1,10 @@
 -- Credits and debits, on a count in eighths of a bit.
 use mathlib.Core.Bool.{_&&_}
+use mathlib.Core.List.{List, [], _∷_}
 use Prim.Native.Nat.{ℕ, zero, suc, _+_, _-_, _*_, _/_, _≤_, min, max}
 use lib.Dec.{ltb, eqb}
 use Rattle.ledger.specs.Choice.{pick}
+use Rattle.ledger.specs.declared.Credited.{Credited}
 
 -- a size that crediting is worked at, and a count that lies in it. Both pools' sizes are such.
 pub record Within (S count : ℕ) : Type 0 where
@@ -30,6 +32,22 @@ further S (suc f) rest count =
 unfoldable pub credited : ℕ → ℕ → ℕ → ℕ
 credited S n count =
     pick (eqb n 0) count (further S (8 * n) (8 * n - turnTakes S (8 * n)) (count + turnAdds S count (8 * n)))
+
+-- what a credit gives: the new count and the units added, which are how far the count rose
+abbrev pub crediting : ℕ → ℕ → ℕ → Credited
+crediting S n count = record { count = credited S n count; added = credited S n count - count }
+
+-- the same turns, told by what each of them adds; proofs/Worth.antt shows that these sum up to the units added
+unfoldable pub furtherAdds : ℕ → ℕ → ℕ → ℕ → List ℕ
+furtherAdds S zero rest count = []
+furtherAdds S (suc f) rest count =
+    let more = furtherAdds S f (rest - turnTakes S rest) (count + turnAdds S count rest) in
+    pick (ltb 0 rest && ltb count (S - 2)) (turnAdds S count rest ∷ more) []
+
+unfoldable pub creditAdds : ℕ → ℕ → ℕ → List ℕ
+creditAdds S n count =
+    let more = furtherAdds S (8 * n) (8 * n - turnTakes S (8 * n)) (count + turnAdds S count (8 * n)) in
+    pick (eqb n 0) [] (turnAdds S count (8 * n) ∷ more)
 
 -- the bytes that a debit takes for k wanted with least m: min(k, floor(count / 64)), or 0 if that is below m
 unfoldable pub taken : ℕ → ℕ → ℕ → ℕ

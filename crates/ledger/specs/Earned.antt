@@ -46,9 +46,10 @@ earned now (a ∷ []) = 0
 earned now (a ∷ b ∷ []) = 0
 earned now (a ∷ b ∷ c ∷ older) = estimate (leastBetween now a b c)
 
--- a call that earned nothing: both counts and the seeding are as they were, and no compression was run
+-- a call that earned nothing: both counts and the seeding are as they were, no compression was run, and nothing was added
 pub record EarnsNothing (before after : Ledger) (a : Answer) : Type 0 where
   pub input : after .input .count ≡ before .input .count
   pub blocking : after .blocking .count ≡ before .blocking .count
   pub seeding : after .seeding ≡ before .seeding
   pub compressions : a .compressions ≡ 0
+  pub added : a .added ≡ 0

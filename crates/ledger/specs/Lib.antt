@@ -13,3 +13,4 @@ pub mod Streams
 pub mod Plans
 pub mod Machine
 pub mod Earned
+pub mod Worth

@@ -58,12 +58,20 @@ pub struct Timer {
     pub came: u8,
 }
 
+// What crediting gives: the count afterwards, and the units that were added to it.
+pub struct Credited {
+    pub count: u32,
+    pub added: u32,
+}
+
 // What a call will do.
 pub struct Plan {
     // the number given back
     pub number: u32,
     // the ledger afterwards, but for the two spots, which follow from the bytes that are mixed
     pub ledger: Ledger,
+    // the units that crediting adds, before any debit
+    pub added: u32,
     // the device's timer afterwards, and whether it is kept
     pub timer: Timer,
     pub keeps: bool,
@@ -78,11 +86,13 @@ pub struct Plan {
     pub stream: u32,
 }
 
-// The number given back, the bytes delivered, and the work of the call: ChaCha20 blocks and SHA-1 compressions.
+// The number given back, the bytes delivered, the work of the call: ChaCha20 blocks and SHA-1 compressions; and what its credit was worth:
+// the units that were added to a count, before any debit.
 #[repr(C)]
 pub struct Answer {
     pub number: u32,
     pub delivered: u32,
     pub blocks: u32,
     pub compressions: u32,
+    pub added: u32,
 }

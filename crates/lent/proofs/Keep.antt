@@ -64,7 +64,7 @@ abbrev pub Keeper-ty : Ty
 Keeper-ty = tyStruct (107 ∷ 101 ∷ 101 ∷ 112 ∷ 101 ∷ 114 ∷ 58 ∷ 58 ∷ 75 ∷ 101 ∷ 101 ∷ 112 ∷ 101 ∷ 114 ∷ []) (tcons Ledger-ty (tcons (tyArray (tyInt w32) 16) (tcons (tyArray (tyInt w64) 16) (tcons (tyArray (tyInt w64) 16) (tcons (tyArray (tyInt w8) 16) (tcons (tyArray (tyInt w32) 128) (tcons (tyArray (tyInt w32) 32) (tcons (tyArray (tyInt w32) 4) (tcons (tyArray (tyInt w32) 16) tnil)))))))))
 
 abbrev pub Answer-ty : Ty
-Answer-ty = tyStruct (108 ∷ 101 ∷ 100 ∷ 103 ∷ 101 ∷ 114 ∷ 58 ∷ 58 ∷ 65 ∷ 110 ∷ 115 ∷ 119 ∷ 101 ∷ 114 ∷ []) (tcons (tyInt w32) (tcons (tyInt w32) (tcons (tyInt w32) (tcons (tyInt w32) tnil))))
+Answer-ty = tyStruct (108 ∷ 101 ∷ 100 ∷ 103 ∷ 101 ∷ 114 ∷ 58 ∷ 58 ∷ 65 ∷ 110 ∷ 115 ∷ 119 ∷ 101 ∷ 114 ∷ []) (tcons (tyInt w32) (tcons (tyInt w32) (tcons (tyInt w32) (tcons (tyInt w32) (tcons (tyInt w32) tnil)))))
 
 abbrev pub Done-ty : Ty
 Done-ty = tyStruct (115 ∷ 116 ∷ 101 ∷ 112 ∷ 115 ∷ 58 ∷ 58 ∷ 97 ∷ 110 ∷ 115 ∷ 119 ∷ 101 ∷ 114 ∷ 115 ∷ 58 ∷ 58 ∷ 68 ∷ 111 ∷ 110 ∷ 101 ∷ []) (tcons Ledger-ty (tcons Answer-ty tnil))

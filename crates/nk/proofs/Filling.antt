@@ -8,7 +8,9 @@ use borrow.Author.Tests.{le-leb, lt-leb}
 use lib.ListN.{length, take, drop, length-append, length-drop}
 use lib.Seq.{sets-eq, take-append-seam, drop-append-add, drop-drop}
 use Rattle.ledger.specs.Choice.{pick}
+use Rattle.ledger.specs.Sizes.{longest}
 use Rattle.transcript.specs.Text.{Put}
+use Rattle.transcript.specs.Lines.{longestLine}
 use Rattle.keeper.specs.declared.Keeper.{Keeper}
 use Rattle.replay.specs.Turns.{turnOf, Took}
 use Rattle.replay.specs.declared.turns.Turn.{Turn}
@@ -58,12 +60,12 @@ pub record Filling (j : List ℕ) (from : ℕ) (first : Keeper) (bare : List ℕ
   pub laid : room ≡ onto text bare
   pub counted : count ≡ length text
   pub space : count ≤ mostBefore
-  pub lined : length line ≡ 8259
+  pub lined : length line ≡ longestLine longest
   pub turns : ℕ
   pub enough : length j < at + turns
   pub same : turnsBehind (suc turns) j at k text ≡ batchOf j from first
 
-pub begun : (j : List ℕ) (at : ℕ) (k : Keeper) (room line : List ℕ) → length line ≡ 8259 → Filling j at k room at k 0 room line
+pub begun : (j : List ℕ) (at : ℕ) (k : Keeper) (room line : List ℕ) → length line ≡ longestLine longest → Filling j at k room at k 0 room line
 unfolding batchOf
 begun j at k room line l =
     record { text = []; laid = refl; counted = refl; space = omega arith; lined = l; turns = suc (length j); enough = omega arith; same = refl }
@@ -73,10 +75,10 @@ module _ (j : List ℕ) (from : ℕ) (first : Keeper) (bare : List ℕ) (at : �
   pub goes-on : t .more ≡ true → (at < t .at) × (t .at ≤ length j)
   goes-on e = let a = ahead j at k (sym (took .more) ∙ e) in let p = took .at in (omega arith, omega arith)
 
-  count-few : t .count ≤ 8259
+  count-few : t .count ≤ longestLine longest
   count-few = let s = short j at k in let n = took .count in omega arith
 
-  pub line-length : length line′ ≡ 8259
+  pub line-length : length line′ ≡ longestLine longest
   line-length =
       let s = short j at k in
       let h = g .lined in

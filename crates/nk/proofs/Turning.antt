@@ -14,6 +14,7 @@ use Rattle.journal.specs.Walking.{entry}
 use Rattle.journal.specs.declared.records.Found.{Found}
 use Rattle.journal.specs.declared.records.Found.the-variants.{One, Stop, End}
 use Rattle.journal.proofs.Onward.{read-ahead}
+use Rattle.transcript.specs.Lines.{longestLine, longestEnd}
 use Rattle.transcript.proofs.Laws.{longest as longest-line, longest-end}
 use Rattle.keeper.specs.Narrative.{told}
 use Rattle.keeper.specs.Record.{fresh}
@@ -26,13 +27,13 @@ use Rattle.replay.proofs.Transcribed.{transcribed}
 
 -- ---- one turn
 -- the longest line is one with 4,096 bytes
-most : (n b : ℕ) → n ≤ 67 + 2 * b → b ≤ longest → n ≤ 8259
+most : (n b : ℕ) → n ≤ longestLine b → b ≤ longest → n ≤ longestLine longest
 most n b h k = omega (arith, h, k)
 
-last : (n : ℕ) → n ≤ 15 → n ≤ 8259
+last : (n : ℕ) → n ≤ longestEnd → n ≤ longestLine longest
 last n h = omega (arith, h)
 
-short-after : (j : List ℕ) (at : ℕ) (k : Keeper) (f : Found) → length ((after j at k f) .line) ≤ 8259
+short-after : (j : List ℕ) (at : ℕ) (k : Keeper) (f : Found) → length ((after j at k f) .line) ≤ longestLine longest
 unfolding after lineFor
 short-after j at k (One r next) =
     let o = told k (callOf j (entry at r next)) in
@@ -40,7 +41,7 @@ short-after j at k (One r next) =
 short-after j at k (Stop n) = last _ (longest-end n)
 short-after j at k End = last _ (longest-end 0)
 
-pub short : (j : List ℕ) (at : ℕ) (k : Keeper) → length ((turnOf j at k) .line) ≤ 8259
+pub short : (j : List ℕ) (at : ℕ) (k : Keeper) → length ((turnOf j at k) .line) ≤ longestLine longest
 unfolding turnOf
 short j at k = short-after j at k (readAt 1 j at)
 

@@ -2,7 +2,8 @@
 ghost use mathlib.Core.Path.{_≡_};
 ghost use Prim.Native.Nat.{_+_, _-_, _*_, _≤_, min};
 ghost use Rattle.ledger.specs.Sizes.{longest};
-ghost use Rattle.ledger.specs.Credits.{Within, credited, further, taken, turnAdds, turnTakes};
+ghost use Rattle.ledger.specs.Credits.{Within, credited, crediting, further, taken, turnAdds, turnTakes};
+use ledger::Credited;
 
 // The lesser of two.
 fn lesser(a: u32, b: u32) -> u32
@@ -54,8 +55,8 @@ fn turns(size: u32, count: u32, rest: u32) -> u32
 }
 
 // The count after `bits` bits are credited to a pool of the size. The first turn is made whatever the count, so it stands before
-// the recursion, which asks for the count at each turn. Only proved code comes here, and no call names more bits than these.
-pub fn credit(size: u32, count: u32, bits: u32) -> u32
+// the recursion, which asks for the count at each turn.
+fn credited(size: u32, count: u32, bits: u32) -> u32
     requires { ⌜ Within size count ⌝ }
     requires { ⌜ bits ≤ 8 * longest ⌝ }
     ensures { λ r. ⌜ r ≡ credited size bits count ⌝ }
@@ -70,6 +71,21 @@ pub fn credit(size: u32, count: u32, bits: u32) -> u32
         after_turn(size, count, rest),
         rest - turn_takes(size, rest),
     )
+}
+
+// That count, and the units added: how far it rose, which is no second sum. Only proved code comes here, and no call names more bits than
+// these.
+pub fn credit(size: u32, count: u32, bits: u32) -> Credited
+    requires { ⌜ Within size count ⌝ }
+    requires { ⌜ bits ≤ 8 * longest ⌝ }
+    ensures { λ r. ⌜ r ≡ crediting size bits count ⌝ }
+    ensures { λ r. ⌜ r .count ≤ size ⌝ }
+{
+    let c = credited(size, count, bits);
+    Credited {
+        count: c,
+        added: c - count,
+    }
 }
 
 // The bytes that a debit takes: what is wanted and held, a byte for each 64 of the count, or none if that is below the least.

@@ -44,8 +44,8 @@ made-few len w h = record { few = under len _ h }
 delivered-few : (n : ℕ) (w : Run) → n ≤ longest → Few (deliver n w)
 unfolding deliver
 delivered-few n w h =
-    let t = taken-wanted n 0 (w .0 .ledger .blocking .count) in
-    record { few = as-many _ _ ((laws blockingShape) .take-length (taken n 0 (w .0 .ledger .blocking .count)) _) (omega (arith, t, h)) }
+    let t = taken-wanted n 0 (w .keeper .ledger .blocking .count) in
+    record { few = as-many _ _ ((laws blockingShape) .take-length (taken n 0 (w .keeper .ledger .blocking .count)) _) (omega (arith, t, h)) }
 
 act-few : (k : Keeper) (c : Call) → Few (act k c)
 unfolding act eventCall interruptCall writeCall seedCall readCall blockingCall

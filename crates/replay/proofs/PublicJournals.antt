@@ -78,24 +78,25 @@ unfolding tailOf blottedFrom blot spacesLeft pick
 tail-goes [] t = refl
 tail-goes (b ∷ bytes) t = ap (λ (l : List ℕ). 42 ∷ l) (digits-go (hexOf (b ∷ bytes)) (10 ∷ t) (hex-digits (b ∷ bytes)))
 
--- a line's six numbers, so many blots, a newline, and what follows it
+-- a line's seven numbers, so many blots, a newline, and what follows it
 abbrev blottedLine : Answer → ℕ → ℕ → ℕ → List ℕ → List ℕ
 blottedLine a input blocking blots t =
     wordOf (a .number) ++ (wordOf (a .delivered) ++ (wordOf input ++ (wordOf blocking ++ (wordOf (a .blocks)
-    ++ (decimalOf (a .compressions) ++ (replicate blots 42 ++ (10 ∷ t)))))))
+    ++ (wordOf (a .compressions) ++ (decimalOf (a .added) ++ (replicate blots 42 ++ (10 ∷ t))))))))
 
 line-blotted : (a : Answer) (input blocking : ℕ) (bytes t : List ℕ)
     → blotted (lineOf a input blocking bytes ++ t) ≡ blottedLine a input blocking (length (tailOf bytes)) (blotted t)
 unfolding lineOf spacesLeft pick
 line-blotted a input blocking bytes t =
     simp append-assoc
-    (word-stays 5 4 (a .number) _ refl ∙ ap (λ (l : List ℕ). wordOf (a .number) ++ l)
-    (word-stays 4 3 (a .delivered) _ refl ∙ ap (λ (l : List ℕ). wordOf (a .delivered) ++ l)
-    (word-stays 3 2 input _ refl ∙ ap (λ (l : List ℕ). wordOf input ++ l)
-    (word-stays 2 1 blocking _ refl ∙ ap (λ (l : List ℕ). wordOf blocking ++ l)
-    (word-stays 1 0 (a .blocks) _ refl ∙ ap (λ (l : List ℕ). wordOf (a .blocks) ++ l)
-    (digits-stay 0 (decimalOf (a .compressions)) _ (decimal-digits 10 (a .compressions)) ∙ ap (λ (l : List ℕ). decimalOf (a .compressions) ++ l)
-    (tail-goes bytes t)))))))
+    (word-stays 6 5 (a .number) _ refl ∙ ap (λ (l : List ℕ). wordOf (a .number) ++ l)
+    (word-stays 5 4 (a .delivered) _ refl ∙ ap (λ (l : List ℕ). wordOf (a .delivered) ++ l)
+    (word-stays 4 3 input _ refl ∙ ap (λ (l : List ℕ). wordOf input ++ l)
+    (word-stays 3 2 blocking _ refl ∙ ap (λ (l : List ℕ). wordOf blocking ++ l)
+    (word-stays 2 1 (a .blocks) _ refl ∙ ap (λ (l : List ℕ). wordOf (a .blocks) ++ l)
+    (word-stays 1 0 (a .compressions) _ refl ∙ ap (λ (l : List ℕ). wordOf (a .compressions) ++ l)
+    (digits-stay 0 (decimalOf (a .added)) _ (decimal-digits 10 (a .added)) ∙ ap (λ (l : List ℕ). decimalOf (a .added) ++ l)
+    (tail-goes bytes t))))))))
 
 -- ---- two calls that are alike have one line but for the hex: the answer says how many bytes were handed out
 tail-long : (s t : List ℕ) → length s ≡ length t → length (tailOf s) ≡ length (tailOf t)

@@ -41,10 +41,11 @@ turnsWrite zero j at k = []
 turnsWrite (suc n) j at k =
     let a = turnOf j at k in a .line ++ pick (a .more) (turnsWrite n j (a .at) (a .keeper)) []
 
--- ---- a transcript with the hex blotted out, and all else as it is. Between a line's six numbers stand five spaces: the sixth opens the hex
--- how many spaces of its line are still to come, behind a byte: six at the line's start, none in the hex
+-- ---- a transcript with the hex blotted out, and all else as it is. Between a line's seven numbers stand six spaces: the seventh opens
+-- the hex
+-- how many spaces of its line are still to come, behind a byte: seven at the line's start, none in the hex
 unfoldable pub spacesLeft : ℕ → ℕ → ℕ
-spacesLeft n b = pick (eqb b 10) 6 (pick (eqb b 32) (n - 1) n)
+spacesLeft n b = pick (eqb b 10) 7 (pick (eqb b 32) (n - 1) n)
 
 -- a byte, or `*` in the hex
 unfoldable pub blot : ℕ → ℕ → ℕ
@@ -56,4 +57,4 @@ blottedFrom n [] = []
 blottedFrom n (b ∷ text) = let left = spacesLeft n b in blot left b ∷ blottedFrom left text
 
 abbrev pub blotted : List ℕ → List ℕ
-blotted text = blottedFrom 6 text
+blotted text = blottedFrom 7 text

@@ -38,8 +38,8 @@ end-0 = 101 ∷ 110 ∷ 100 ∷ 32 ∷ 48 ∷ 10 ∷ []
 
 -- ---- the paper's example: 48 zero bytes, and a generator read of 4 bytes before seeding
 pub paper-told : transcriptOf (opening ++ replicate 48 0 ++ (5 ∷ 0 ∷ 0 ∷ 0 ∷ 0 ∷ 4 ∷ 0 ∷ []))
-    -- `2 0 0 0 0 0`
-    ≡ (50 ∷ 32 ∷ 48 ∷ 32 ∷ 48 ∷ 32 ∷ 48 ∷ 32 ∷ 48 ∷ 32 ∷ 48 ∷ 10 ∷ []) ++ end-0
+    -- `2 0 0 0 0 0 0`
+    ≡ (50 ∷ 32 ∷ 48 ∷ 32 ∷ 48 ∷ 32 ∷ 48 ∷ 32 ∷ 48 ∷ 32 ∷ 48 ∷ 32 ∷ 48 ∷ 10 ∷ []) ++ end-0
 unfolding transcriptOf linesOf outcomes lineFor callWith carriedBy walkOf behind walk walkFrom headerOf headerWithin refusalWithin startOf readAt front opened carrying fieldsIn widths sum recordOf carries lineOf endOf wordOf digits tailOf told inRange othersInRange ledgerInRange act readCall bytesWords leNumber pick
 paper-told = refl
 
@@ -54,52 +54,52 @@ start = 0 ∷ 1 ∷ 2 ∷ 3 ∷ 4 ∷ 5 ∷ 6 ∷ 7 ∷ 8 ∷ 9 ∷ 10 ∷ 11 �
 abbrev event : List ℕ
 event = 1 ∷ 220 ∷ 5 ∷ 0 ∷ 0 ∷ 1 ∷ 239 ∷ 205 ∷ 171 ∷ 137 ∷ 103 ∷ 69 ∷ 35 ∷ 1 ∷ 7 ∷ 0 ∷ 0 ∷ 0 ∷ []
 
--- `0 0 0 0 0 0`
+-- `0 0 0 0 0 0 0`
 abbrev event-line : List ℕ
-event-line = 48 ∷ 32 ∷ 48 ∷ 32 ∷ 48 ∷ 32 ∷ 48 ∷ 32 ∷ 48 ∷ 32 ∷ 48 ∷ 10 ∷ []
+event-line = 48 ∷ 32 ∷ 48 ∷ 32 ∷ 48 ∷ 32 ∷ 48 ∷ 32 ∷ 48 ∷ 32 ∷ 48 ∷ 32 ∷ 48 ∷ 10 ∷ []
 
 -- an interrupt, late enough to spill
 abbrev interrupt : List ℕ
 interrupt = 2 ∷ 221 ∷ 5 ∷ 0 ∷ 0 ∷ 9 ∷ 0 ∷ 0 ∷ 0 ∷ 239 ∷ 205 ∷ 171 ∷ 137 ∷ 103 ∷ 69 ∷ 35 ∷ 1 ∷ 16 ∷ 50 ∷ 84 ∷ 118 ∷ 152 ∷ 186 ∷ 220 ∷ 254 ∷
     []
 
--- `0 0 6 0 0 0`
+-- `0 0 6 0 0 0 6`
 abbrev interrupt-line : List ℕ
-interrupt-line = 48 ∷ 32 ∷ 48 ∷ 32 ∷ 54 ∷ 32 ∷ 48 ∷ 32 ∷ 48 ∷ 32 ∷ 48 ∷ 10 ∷ []
+interrupt-line = 48 ∷ 32 ∷ 48 ∷ 32 ∷ 54 ∷ 32 ∷ 48 ∷ 32 ∷ 48 ∷ 32 ∷ 48 ∷ 32 ∷ 54 ∷ 10 ∷ []
 
 -- a seed of 22 bytes with 171 bits, which seeds the keeper
 abbrev seeding : List ℕ
 seeding = 4 ∷ 222 ∷ 5 ∷ 0 ∷ 0 ∷ 22 ∷ 0 ∷ 171 ∷ 0 ∷ 0 ∷ 0 ∷ 0 ∷ 1 ∷ 2 ∷ 3 ∷ 4 ∷ 5 ∷ 6 ∷ 7 ∷ 8 ∷ 9 ∷ 10 ∷ 11 ∷ 12 ∷ 13 ∷ 14 ∷ 15 ∷ 16 ∷ 17 ∷
     18 ∷ 19 ∷ 20 ∷ 21 ∷ []
 
--- `0 0 7 0 0 16`
+-- `0 0 7 0 0 16 1025`
 abbrev seeding-line : List ℕ
-seeding-line = 48 ∷ 32 ∷ 48 ∷ 32 ∷ 55 ∷ 32 ∷ 48 ∷ 32 ∷ 48 ∷ 32 ∷ 49 ∷ 54 ∷ 10 ∷ []
+seeding-line = 48 ∷ 32 ∷ 48 ∷ 32 ∷ 55 ∷ 32 ∷ 48 ∷ 32 ∷ 48 ∷ 32 ∷ 49 ∷ 54 ∷ 32 ∷ 49 ∷ 48 ∷ 50 ∷ 53 ∷ 10 ∷ []
 
 -- a generator read of 8 bytes
 abbrev eight : List ℕ
 eight = 5 ∷ 223 ∷ 5 ∷ 0 ∷ 0 ∷ 8 ∷ 0 ∷ []
 
--- `0 8 7 0 1 0 a9c7a150f8824f67`
+-- `0 8 7 0 1 0 0 a9c7a150f8824f67`
 abbrev eight-line : List ℕ
-eight-line = 48 ∷ 32 ∷ 56 ∷ 32 ∷ 55 ∷ 32 ∷ 48 ∷ 32 ∷ 49 ∷ 32 ∷ 48 ∷ 32 ∷ 97 ∷ 57 ∷ 99 ∷ 55 ∷ 97 ∷ 49 ∷ 53 ∷ 48 ∷ 102 ∷ 56 ∷ 56 ∷ 50 ∷ 52 ∷ 102 ∷ 54 ∷ 55 ∷ 10 ∷ []
+eight-line = 48 ∷ 32 ∷ 56 ∷ 32 ∷ 55 ∷ 32 ∷ 48 ∷ 32 ∷ 49 ∷ 32 ∷ 48 ∷ 32 ∷ 48 ∷ 32 ∷ 97 ∷ 57 ∷ 99 ∷ 55 ∷ 97 ∷ 49 ∷ 53 ∷ 48 ∷ 102 ∷ 56 ∷ 56 ∷ 50 ∷ 52 ∷ 102 ∷ 54 ∷ 55 ∷ 10 ∷ []
 
 -- a seed of 16 bytes with 128 bits
 abbrev credit : List ℕ
 credit = 4 ∷ 224 ∷ 5 ∷ 0 ∷ 0 ∷ 16 ∷ 0 ∷ 128 ∷ 0 ∷ 0 ∷ 0 ∷ 97 ∷ 98 ∷ 99 ∷ 100 ∷ 101 ∷ 102 ∷ 103 ∷ 104 ∷ 105 ∷ 106 ∷ 107 ∷ 108 ∷ 109 ∷ 110 ∷
     111 ∷ 112 ∷ []
 
--- `0 0 774 0 0 0`
+-- `0 0 774 0 0 0 767`
 abbrev credit-line : List ℕ
-credit-line = 48 ∷ 32 ∷ 48 ∷ 32 ∷ 55 ∷ 55 ∷ 52 ∷ 32 ∷ 48 ∷ 32 ∷ 48 ∷ 32 ∷ 48 ∷ 10 ∷ []
+credit-line = 48 ∷ 32 ∷ 48 ∷ 32 ∷ 55 ∷ 55 ∷ 52 ∷ 32 ∷ 48 ∷ 32 ∷ 48 ∷ 32 ∷ 48 ∷ 32 ∷ 55 ∷ 54 ∷ 55 ∷ 10 ∷ []
 
 -- a blocking read of 3 bytes, which leaves 262 units in the one pool and 192 in the other
 abbrev three : List ℕ
 three = 6 ∷ 225 ∷ 5 ∷ 0 ∷ 0 ∷ 3 ∷ 0 ∷ []
 
--- `0 3 262 192 0 10 595a27`
+-- `0 3 262 192 0 10 384 595a27`
 abbrev three-line : List ℕ
-three-line = 48 ∷ 32 ∷ 51 ∷ 32 ∷ 50 ∷ 54 ∷ 50 ∷ 32 ∷ 49 ∷ 57 ∷ 50 ∷ 32 ∷ 48 ∷ 32 ∷ 49 ∷ 48 ∷ 32 ∷ 53 ∷ 57 ∷ 53 ∷ 97 ∷ 50 ∷ 55 ∷ 10 ∷ []
+three-line = 48 ∷ 32 ∷ 51 ∷ 32 ∷ 50 ∷ 54 ∷ 50 ∷ 32 ∷ 49 ∷ 57 ∷ 50 ∷ 32 ∷ 48 ∷ 32 ∷ 49 ∷ 48 ∷ 32 ∷ 51 ∷ 56 ∷ 52 ∷ 32 ∷ 53 ∷ 57 ∷ 53 ∷ 97 ∷ 50 ∷ 55 ∷ 10 ∷ []
 
 abbrev six : List ℕ
 six = opening ++ (start ++ (event ++ (interrupt ++ (seeding ++ (eight ++ (credit ++ three))))))
@@ -108,7 +108,7 @@ pub six-told : transcriptOf six ≡ event-line ++ (interrupt-line ++ (seeding-li
 unfolding transcriptOf linesOf outcomes lineFor callWith carriedBy walkOf behind walk walkFrom headerOf headerWithin refusalWithin startOf readAt front opened carrying fieldsIn widths sum recordOf carries lineOf endOf wordOf digits tailOf hexOf glyphOf told inRange othersInRange ledgerInRange act eventCall interruptCall seedCall readCall generate blockingCall deliver transfer creditInput reseed eventBits estimate log2 signed taken credited further stirred generated stream counted xorAt bytesWords leNumber wordsBytes leBytes chachaBlock rounds innerBlock quarterRound line extractBlocks poolHash hashed folded compressed initialHash run step schedule nextWord constant Sha1·mix ch parity maj swapped mix mixedWords tapped twisted rotl zipWith pick
 six-told = refl
 
--- ---- the hex blotted out: `0 3 262 192 0 10*******`, and the last line as it is
-pub three-blotted : blotted (three-line ++ end-0) ≡ (48 ∷ 32 ∷ 51 ∷ 32 ∷ 50 ∷ 54 ∷ 50 ∷ 32 ∷ 49 ∷ 57 ∷ 50 ∷ 32 ∷ 48 ∷ 32 ∷ 49 ∷ 48 ∷ 42 ∷ 42 ∷ 42 ∷ 42 ∷ 42 ∷ 42 ∷ 42 ∷ 10 ∷ []) ++ end-0
+-- ---- the hex blotted out: `0 3 262 192 0 10 384*******`, and the last line as it is
+pub three-blotted : blotted (three-line ++ end-0) ≡ (48 ∷ 32 ∷ 51 ∷ 32 ∷ 50 ∷ 54 ∷ 50 ∷ 32 ∷ 49 ∷ 57 ∷ 50 ∷ 32 ∷ 48 ∷ 32 ∷ 49 ∷ 48 ∷ 32 ∷ 51 ∷ 56 ∷ 52 ∷ 42 ∷ 42 ∷ 42 ∷ 42 ∷ 42 ∷ 42 ∷ 42 ∷ 10 ∷ []) ++ end-0
 unfolding blottedFrom blot spacesLeft pick
 three-blotted = refl

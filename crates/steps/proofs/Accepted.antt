@@ -173,7 +173,7 @@ pub blocking-plan : (others : Bool) (l : Ledger) (t : Timer) (len : ℕ) → Whe
 unfolding planCall planBlockingRead
 blocking-plan others l t len =
     let P = BlockingPlan len in
-    let w = taken-wanted len 0 (refilled (transferred len l) l) in
+    let w = taken-wanted len 0 ((refilled (transferred len l) l) .count) in
     in-or-out P others l t (blockingRead len)
     (pick-both (Where0 P) _ (other P 3 l (omega arith))
     (pick-both (Where0 P) _

@@ -1,9 +1,10 @@
 -- Demand 1 of the code: by its contract, what a call leaves is one fixed thing; where its answer is not 0, that is the record and the room as
--- they were, nothing delivered and no work. So too the making of a keeper.
+-- they were, nothing delivered, no work and nothing added. So too the making of a keeper.
 use mathlib.Core.Path.{_≡_, refl, sym, ap, _∙_}
 use mathlib.Core.List.{List, []}
 use Prim.Native.Nat.{ℕ}
 use lib.ListN.{length}
+use Rattle.ledger.specs.Plans.{bare}
 use Rattle.keeper.specs.Record.{refused, fresh}
 use Rattle.keeper.specs.Calls.{Call}
 use Rattle.keeper.specs.Narrative.{told}
@@ -20,7 +21,7 @@ one-making k start x y ex ey = ex ∙ sym ey
 
 -- DEMAND 1
 pub refuses : (k : Keeper) (c : Call) (room : List ℕ) (x : Left) → x ≡ leaves k c room → (x .answer .number ≡ 0 → ⊥)
-    → x ≡ left k (record { number = x .answer .number; delivered = 0; blocks = 0; compressions = 0 }) room
+    → x ≡ left k (bare (x .answer .number)) room
 unfolding leaves
 refuses k c room x e h =
     let n : x .answer .number ≡ (told k c) .answer .number = ap (λ (y : Left). y .answer .number) e in

@@ -6,3 +6,4 @@ pub mod ExactlyTold
 pub mod PublicAlone
 pub mod NewDevices
 pub mod WorkReal
+pub mod Worth

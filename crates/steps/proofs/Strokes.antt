@@ -14,7 +14,7 @@ use Rattle.ledger.specs.Range.{othersInRange}
 use Rattle.ledger.specs.PublicCalls.{PublicCall, event, interrupt, write, seed, read, blockingRead, deviceOf}
 use Rattle.ledger.specs.Sizes.{inputWords, blockingWords}
 use Rattle.ledger.specs.Timers.{Timers, freshTimer, timerOf, kept}
-use Rattle.ledger.specs.Plans.{planCall, decide, answerOf}
+use Rattle.ledger.specs.Plans.{planCall, decide, answerOf, bare}
 use Rattle.ledger.specs.Machine.{timersAfter, planAt}
 use Rattle.ledger.specs.declared.Ledger.{Ledger}
 use Rattle.ledger.specs.declared.Plan.{Plan}
@@ -85,7 +85,7 @@ decided k c others p e eo ep = record { is = ep ∙ ap (λ (o : Bool). decide o 
 
 -- ---- a refusal
 pub refusal : (k : Keeper) (c : Call) (room : List ℕ) (p : Plan) → Planned k (public c) p → (p .number ≡ 0 → ⊥)
-    → left k (record { number = p .number; delivered = 0; blocks = 0; compressions = 0 }) room ≡ leaves k c room
+    → left k (bare (p .number)) room ≡ leaves k c room
 unfolding leaves step obey
 refusal k c room p e h =
     let n : (told k c) .answer .number ≡ p .number = ap (λ (o : Outcome). o .answer .number) (same k c) ∙ ap (λ (q : Plan). q .number) (sym (e .is)) in

@@ -1,7 +1,7 @@
 // What a call gives back.
 ghost use mathlib.Core.Path.{_≡_};
 ghost use Rattle.ledger.specs.Marks.{placing, withSpots};
-ghost use Rattle.ledger.specs.Plans.{Small, answerOf};
+ghost use Rattle.ledger.specs.Plans.{Small, answerOf, bare};
 use decide::answer_of;
 use ledger::Answer;
 use ledger::Gauge;
@@ -15,15 +15,16 @@ pub struct Done {
     pub answer: Answer,
 }
 
-// A number and no more: nothing delivered, no work.
+// A number and no more: nothing delivered, no work, nothing added.
 pub fn answered(l: Ledger, number: u32) -> Done
-    ensures { λ r. ⌜ r ≡ record { ledger = l; answer = record { number = number; delivered = 0; blocks = 0; compressions = 0 } } ⌝ }
+    ensures { λ r. ⌜ r ≡ record { ledger = l; answer = bare number } ⌝ }
 {
     let a = Answer {
         number: number,
         delivered: 0,
         blocks: 0,
         compressions: 0,
+        added: 0,
     };
     Done {
         ledger: l,

@@ -175,7 +175,8 @@ longest a input blocking bytes =
     let e4 = short 10 blocking in
     let e5 = short 10 (a .blocks) in
     let e6 = short 10 (a .compressions) in
-    let e7 = short-tail bytes in
+    let e7 = short 10 (a .added) in
+    let e8 = short-tail bytes in
     simp length-append (omega arith)
 
 pub longest-end : (n : ℕ) → length (endOf n) ≤ longestEnd

@@ -4,18 +4,19 @@ use Prim.Native.Nat.{ℕ}
 use mathlib.Core.Path.{_≡_, refl}
 use mathlib.Core.List.{List, [], _∷_, _++_}
 use Rattle.ledger.specs.Choice.{pick}
+use Rattle.ledger.specs.Plans.{bare}
 use Rattle.transcript.specs.Text.{digits, wordOf, tailOf, hexOf, glyphOf}
 use Rattle.transcript.specs.Lines.{lineOf, endOf}
 
--- `2 0 0 0 0 0`, then `end 0`
-pub paper : lineOf (record { number = 2; delivered = 0; blocks = 0; compressions = 0 }) 0 0 [] ++ endOf 0
-    ≡ 50 ∷ 32 ∷ 48 ∷ 32 ∷ 48 ∷ 32 ∷ 48 ∷ 32 ∷ 48 ∷ 32 ∷ 48 ∷ 10 ∷ 101 ∷ 110 ∷ 100 ∷ 32 ∷ 48 ∷ 10 ∷ []
+-- `2 0 0 0 0 0 0`, then `end 0`
+pub paper : lineOf (bare 2) 0 0 [] ++ endOf 0
+    ≡ 50 ∷ 32 ∷ 48 ∷ 32 ∷ 48 ∷ 32 ∷ 48 ∷ 32 ∷ 48 ∷ 32 ∷ 48 ∷ 32 ∷ 48 ∷ 10 ∷ 101 ∷ 110 ∷ 100 ∷ 32 ∷ 48 ∷ 10 ∷ []
 unfolding lineOf endOf wordOf digits tailOf pick
 paper = refl
 
--- `0 4 512 64 1 8 000fa9ff`
-pub bytes : lineOf (record { number = 0; delivered = 4; blocks = 1; compressions = 8 }) 512 64 (0x00 ∷ 0x0f ∷ 0xa9 ∷ 0xff ∷ [])
-    ≡ 48 ∷ 32 ∷ 52 ∷ 32 ∷ 53 ∷ 49 ∷ 50 ∷ 32 ∷ 54 ∷ 52 ∷ 32 ∷ 49 ∷ 32 ∷ 56 ∷ 32 ∷ 48 ∷ 48 ∷ 48 ∷ 102 ∷ 97 ∷ 57 ∷ 102 ∷ 102 ∷ 10 ∷ []
+-- `0 4 512 64 1 8 30 000fa9ff`: no two of the numbers are the same
+pub bytes : lineOf (record { number = 0; delivered = 4; blocks = 1; compressions = 8; added = 30 }) 512 64 (0x00 ∷ 0x0f ∷ 0xa9 ∷ 0xff ∷ [])
+    ≡ 48 ∷ 32 ∷ 52 ∷ 32 ∷ 53 ∷ 49 ∷ 50 ∷ 32 ∷ 54 ∷ 52 ∷ 32 ∷ 49 ∷ 32 ∷ 56 ∷ 32 ∷ 51 ∷ 48 ∷ 32 ∷ 48 ∷ 48 ∷ 48 ∷ 102 ∷ 97 ∷ 57 ∷ 102 ∷ 102 ∷ 10 ∷ []
 unfolding lineOf wordOf digits tailOf hexOf glyphOf pick
 bytes = refl
 
@@ -23,9 +24,9 @@ bytes = refl
 abbrev most : List ℕ
 most = 52 ∷ 50 ∷ 57 ∷ 52 ∷ 57 ∷ 54 ∷ 55 ∷ 50 ∷ 57 ∷ 53 ∷ []
 
--- `4294967295` six times
-pub largest : lineOf (record { number = 4294967295; delivered = 4294967295; blocks = 4294967295; compressions = 4294967295 }) 4294967295 4294967295 []
-    ≡ most ++ (32 ∷ most) ++ (32 ∷ most) ++ (32 ∷ most) ++ (32 ∷ most) ++ (32 ∷ most) ++ (10 ∷ [])
+-- `4294967295` seven times
+pub largest : lineOf (record { number = 4294967295; delivered = 4294967295; blocks = 4294967295; compressions = 4294967295; added = 4294967295 }) 4294967295 4294967295 []
+    ≡ most ++ (32 ∷ most) ++ (32 ∷ most) ++ (32 ∷ most) ++ (32 ∷ most) ++ (32 ∷ most) ++ (32 ∷ most) ++ (10 ∷ [])
 unfolding lineOf wordOf digits tailOf pick
 largest = refl
 

@@ -1,4 +1,4 @@
--- A line of the transcript: answer, delivered, input, blocking, blocks, compressions, and the bytes.
+-- A line of the transcript: answer, delivered, input, blocking, blocks, compressions, units added, and the bytes.
 use Prim.Native.Nat.{ℕ, _+_, _*_}
 use mathlib.Core.List.{List, [], _∷_, _++_}
 use lib.ListN.{length, drop}
@@ -7,10 +7,14 @@ use Rattle.transcript.specs.Text.{decimalOf, wordOf, tailOf}
 use Rattle.ledger.specs.Choice.{pick}
 use Rattle.ledger.specs.declared.Answer.{Answer}
 
-unfoldable pub lineOf : Answer → ℕ → ℕ → List ℕ → List ℕ
-lineOf a input blocking bytes =
+-- its seven numbers, with single spaces between them
+abbrev pub numbersOf : Answer → ℕ → ℕ → List ℕ
+numbersOf a input blocking =
     wordOf (a .number) ++ (wordOf (a .delivered) ++ (wordOf input ++ (wordOf blocking ++ (wordOf (a .blocks)
-    ++ (decimalOf (a .compressions) ++ (tailOf bytes ++ (10 ∷ [])))))))
+    ++ (wordOf (a .compressions) ++ decimalOf (a .added))))))
+
+unfoldable pub lineOf : Answer → ℕ → ℕ → List ℕ → List ℕ
+lineOf a input blocking bytes = numbersOf a input blocking ++ (tailOf bytes ++ (10 ∷ []))
 
 -- the last line: `end` and the number that ended it
 unfoldable pub endOf : ℕ → List ℕ
@@ -18,7 +22,7 @@ endOf n = (101 ∷ 110 ∷ 100 ∷ 32 ∷ []) ++ (decimalOf n ++ (10 ∷ []))
 
 -- the longest line with n bytes, and the longest last line; src/lines.rt has them by name too
 abbrev pub longestLine : ℕ → ℕ
-longestLine n = 67 + 2 * n
+longestLine n = 78 + 2 * n
 
 abbrev pub longestEnd : ℕ
 longestEnd = 15

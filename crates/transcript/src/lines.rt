@@ -1,6 +1,9 @@
 // The lines of the transcript, each at the start of a room.
 ghost use mathlib.Core.Path.{_≡_};
-ghost use Rattle.transcript.specs.Lines.{lineIn, endIn};
+ghost use Prim.Native.Nat.{_≤_};
+ghost use lib.ListN.{length};
+ghost use Rattle.transcript.specs.Text.{Put};
+ghost use Rattle.transcript.specs.Lines.{numbersOf, lineIn, endIn};
 use crate::text::number;
 use crate::text::tail;
 use crate::text::word;
@@ -8,11 +11,26 @@ use ledger::Answer;
 use ledger::sizes::LONGEST;
 
 // The longest line with no bytes, and with the most bytes, two digits for each; the longest last line. `specs/Lines.antt` names them too.
-const LONGEST_BARE: usize = 67;
+const LONGEST_BARE: usize = 78;
 
 pub const LONGEST_LINE: usize = LONGEST_BARE + 2 * LONGEST;
 
 pub const LONGEST_END: usize = 15;
+
+// Writes the seven numbers of a line at the start of a room, and answers where they end: at most seven times ten digits and six spaces.
+fn numbers(answer: Answer, input: u32, blocking: u32, room: &mut [u8]) -> usize
+    requires { ⌜ 76 ≤ length (now room) ⌝ }
+    ensures { λ r. ⌜ Put (now (room .entry)) (now (room .exit)) 0 (numbersOf answer input blocking) r ⌝ }
+    ensures { λ r. ⌜ r ≤ 76 ⌝ }
+{
+    let a = word(answer.number, room, 0);
+    let b = word(answer.delivered, room, a);
+    let c = word(input, room, b);
+    let d = word(blocking, room, c);
+    let e = word(answer.blocks, room, d);
+    let f = word(answer.compressions, room, e);
+    number(answer.added, room, f)
+}
 
 // Writes a line at the start of a room, and answers how many bytes it has: 0, and nothing is written, where the room is
 // not long enough for the longest line with so many bytes.
@@ -25,15 +43,10 @@ pub fn line(answer: Answer, input: u32, blocking: u32, bytes: &[u8], room: &mut 
     if (room.len() - LONGEST_BARE) / 2 < bytes.len() {
         return 0;
     }
-    let a = word(answer.number, room, 0);
-    let b = word(answer.delivered, room, a);
-    let c = word(input, room, b);
-    let d = word(blocking, room, c);
-    let e = word(answer.blocks, room, d);
-    let f = number(answer.compressions, room, e);
-    let g = tail(bytes, room, f);
-    room[g] = b'\n';
-    g + 1
+    let told = numbers(answer, input, blocking, room);
+    let last = tail(bytes, room, told);
+    room[last] = b'\n';
+    last + 1
 }
 
 // Writes the last line, `end` and a number, at the start of a room, and answers how many bytes it has: 0, and nothing is

@@ -55,6 +55,13 @@ impl Draft {
         }
     }
 
+    /// A new device's fourth event, so many ticks after its third. They alone
+    /// decide what it earns.
+    pub fn fourth_event(&mut self, random: &mut Random, device: u8, ticks: u32) {
+        self.introduce(random, device, self.now);
+        self.device(random, device, self.now.wrapping_add(ticks));
+    }
+
     /// An event that is worth something by its differences, so that it tells
     /// whether its device earns.
     pub fn worthy_event(&mut self, random: &mut Random, device: u8) {
@@ -101,6 +108,12 @@ impl Draft {
         });
     }
 
+    /// An interrupt that spills by time.
+    pub fn spill(&mut self, random: &mut Random) {
+        let late = self.keeper.last_spill.wrapping_add(1_001);
+        self.interrupt(random, late);
+    }
+
     pub fn generator(&mut self, now: u32, length: u16) {
         self.add(Record::Generator { now, length });
     }
@@ -125,6 +138,12 @@ impl Draft {
         self.seed(random, bits, length.min(LONGEST));
     }
 
+    /// The most bits that add nothing to the input pool.
+    pub fn bits_for_nothing(&self) -> u32 {
+        let count = self.keeper.input.count;
+        most_bits(count, count)
+    }
+
     /// Credits until the input count is the target, or just below it.
     pub fn steer(&mut self, random: &mut Random, target: u32) {
         for _ in 0..8 {
@@ -133,7 +152,7 @@ impl Draft {
                 return;
             }
             let most = most_bits(count, target);
-            if credited(count, INPUT.size, most) == target {
+            if credited(count, INPUT.size, most).count == target {
                 return self.credit(random, most);
             }
             // Where no one credit fits, a bit before it rounds off otherwise.
@@ -200,7 +219,7 @@ fn most_bits(count: u32, target: u32) -> u32 {
     let (mut low, mut high) = (0, 8 * LONGEST as u32);
     while low < high {
         let middle = (low + high + 1) / 2;
-        if credited(count, INPUT.size, middle) <= target {
+        if credited(count, INPUT.size, middle).count <= target {
             low = middle;
         } else {
             high = middle - 1;

@@ -63,10 +63,8 @@ fn low_counts(draft: &mut Draft, random: &mut Random) {
             draft.credit(random, bits);
         }
         _ => {
-            // A fourth event of this device: its ticks alone decide.
-            draft.introduce(random, 9, draft.now);
             let ticks = random.pick(&[0, 1, 2, 3, 4]);
-            draft.device(random, 9, draft.now.wrapping_add(ticks));
+            draft.fourth_event(random, 9, ticks);
         }
     }
     draft.probe(random);
@@ -81,9 +79,18 @@ fn high_counts(draft: &mut Draft, random: &mut Random) {
     let first = random.pick(&[2_048, 4_095, 4_096, 4_097, 8_192, 16_384]);
     draft.credit(random, first);
     draft.steer(random, aim);
-    for _ in 0..3 {
-        let bits = random.pick(&[0, 1, 8, 100, 2_047, 2_048, 2_049]);
-        draft.credit(random, bits);
+    for device in 0..4 {
+        match random.below(4) {
+            0 => draft.spill(random),
+            1 => {
+                let ticks = random.pick(&[1, 2, 255, 4_096]);
+                draft.fourth_event(random, device, ticks);
+            }
+            _ => {
+                let bits = random.pick(&[0, 1, 8, 100, 2_047, 2_048, 2_049]);
+                draft.credit(random, bits);
+            }
+        }
     }
     let length = random.pick(&[127, 128, 129, 4_096]);
     draft.blocking(length);
@@ -205,15 +212,12 @@ fn seeding_by_events(draft: &mut Draft, random: &mut Random) {
     for i in 0..random.between(1, 6) {
         match random.below(3) {
             0 => {
-                let late = draft.keeper.last_spill.wrapping_add(1_001);
-                draft.now = late;
-                draft.interrupt(random, late);
+                draft.spill(random);
+                draft.now = draft.keeper.last_spill;
             }
             1 => {
-                let device = i as u8 + 1;
-                draft.introduce(random, device, draft.now);
                 let ticks = random.pick(&[1, 2, 4, 8, 4_096]);
-                draft.device(random, device, draft.now.wrapping_add(ticks));
+                draft.fourth_event(random, i as u8 + 1, ticks);
             }
             _ => draft.credit(random, 1),
         }

@@ -2,7 +2,7 @@
 //! not. It counts the events itself, and does not ask the keeper.
 
 use super::Fields;
-use crate::credits::credited;
+use crate::credits::{credited, Credited};
 use crate::keeper::DEVICES;
 use crate::pools::INPUT;
 use crate::situations::{Situation, Situation::*};
@@ -68,12 +68,12 @@ impl NewDevices {
         after: &Fields,
     ) -> Vec<(Situation, u32)> {
         let worth = before.timers[device].worth(now);
-        let count = credited(before.count, INPUT.size, worth);
+        let Credited { count, added } = credited(before.count, INPUT.size, worth);
         self.kept.push(Kept {
             device,
             nth: self.came(device) + 1,
             worth,
-            would_raise: count > before.count,
+            would_raise: added > 0,
             raised: after.count != before.count,
         });
         let event = &self.kept[self.kept.len() - 1];

@@ -28,6 +28,7 @@ returns c =
       delivered = p .deliver + p .stream;
       blocks = b .stream-blocks .ensures j;
       compressions = m .compressions-run .ensures j;
+      added = p .added;
     }
 
 pub answer-of-spec : {M : Type 1} → statement M

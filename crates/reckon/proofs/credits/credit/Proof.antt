@@ -1,39 +1,24 @@
--- `reckon::credits::credit` meets its contract: a first turn on a rest of 8 for each bit, then the turns that are left.
-use mathlib.Core.Path.{_≡_, sym, ap, _∙_}
-use Prim.Native.Nat.{ℕ}
+-- `reckon::credits::credit` meets its contract: a credit never lowers a count, so how far it rose is a difference that does not wrap.
+use mathlib.Core.Path.{_≡_, ap}
+use Prim.Native.Nat.{ℕ, _-_}
 use native.Mathlib.Omega.{arith}
 use borrow.Author.Needs.{needs}
-use Rattle.ledger.proofs.Crediting.{credited-room}
-use Rattle.ledger.proofs.Unrolled.{credited-none, credited-turns}
-use Rattle.ledger.specs.Credits.{credited}
+use Rattle.ledger.proofs.Crediting.{credited-grows}
+use Rattle.ledger.specs.declared.Credited.{Credited}
 use Rattle.reckon.proofs.credits.credit.Statement.{statement}
 use Rattle.reckon.proofs.credits.credit.Tie as tie
+
+sub-t5 : tie.Need-sub-t5
+sub-t5 c =
+    let b : tie.Start = search in
+    let s = b .args in
+    omega (arith, c .credited .ensures .0, credited-grows (s .size) (s .bits) (s .count))
 
 returns : tie.Need-returns
 returns c =
     let b : tie.Start = search in
-    let s = b .args in
-    (sym (ap (λ (n : ℕ). credited (s .size) n (s .count)) (c .if1 .taken) ∙ credited-none (s .size) (s .count)), omega arith)
-
-returns-2 : tie.Need-returns-2
-returns-2 c =
-    let t : tie.After-turn-takes = search in
-    let n : tie.After-after-turn = search in
-    let b : tie.Start = search in
-    let s = b .args in
-    let is : c .turns .result ≡ credited (s .size) (s .bits) (s .count)
-    = rw (c .turns .ensures, t .turn-takes .ensures, n .after-turn .ensures .0)
-    (sym (credited-turns (s .size) (s .bits) (s .count) (omega arith) (omega arith))) in
-    (is, rw is (credited-room (s .size) (s .bits) (s .count) (omega arith) (omega arith)))
+    let rises : ℕ → Credited = λ n. record { count = n; added = n - b .args .count } in
+    (ap rises (c .credited .ensures .0), c .credited .ensures .1)
 
 pub credit-spec : {M : Type 1} → statement M
-credit-spec =
-    tie.close
-    (tie.spec
-    returns
-    (λ c. search needs)
-    (λ c κs. search needs)
-    (λ c κs. search needs)
-    (λ c. search needs)
-    (λ c κs. search needs)
-    returns-2)
+credit-spec = tie.close (tie.spec (λ c κs. search needs) sub-t5 returns)
