@@ -3,12 +3,11 @@
 //
 // Pools, generator and room are lent and changed in place; what is passed on stands for a moment in a room of 32 or 128 bytes.
 ghost use mathlib.Core.Path.{_≡_};
-ghost use mathlib.Core.List.{[], _++_};
+ghost use mathlib.Core.List.{_++_};
 ghost use Prim.Native.Nat.{_≤_};
 ghost use lib.ListN.{length, drop};
 ghost use Rattle.words.specs.Bytes.{wordsBytes};
 ghost use Rattle.ledger.specs.Sizes.{inputWords, generatorWords};
-ghost use Rattle.ledger.specs.Choice.{pick};
 ghost use Rattle.pool.specs.Mixing.{mix};
 ghost use Rattle.pool.specs.Extracting.{extract};
 ghost use Rattle.mixer.specs.Sizes.{shapeOf, InPool};
@@ -45,17 +44,14 @@ pub fn feed_event(ws: &mut [u32], s: Spot, stamp: u64, at: u32, value: u32) -> S
     mix_words(ws, s, &w)
 }
 
-// The fast pool's words go into a pool, if they spill.
-pub fn spill(ws: &mut [u32], s: Spot, f: &[u32], spills: bool) -> Spot
+// The fast pool's words go into a pool.
+pub fn spill(ws: &mut [u32], s: Spot, f: &[u32]) -> Spot
     requires { ⌜ InPool (length (now ws)) s ⌝ }
     requires { ⌜ length (now ws) ≡ inputWords ⌝ }
-    ensures { λ r. ⌜ (record { words = now (ws .exit); spot = r }) ≡ mix (shapeOf (length (now (ws .entry)))) (record { words = now (ws .entry); spot = s }) (pick spills (wordsBytes (now (f .entry))) []) ⌝ }
+    ensures { λ r. ⌜ (record { words = now (ws .exit); spot = r }) ≡ mix (shapeOf (length (now (ws .entry)))) (record { words = now (ws .entry); spot = s }) (wordsBytes (now (f .entry))) ⌝ }
     ensures { λ r. ⌜ InPool (length (now (ws .entry))) r ⌝ }
 {
-    if spills {
-        return mix_words(ws, s, f);
-    }
-    s
+    mix_words(ws, s, &f[..])
 }
 
 // Bytes taken from a pool go onto the key, through the front of a room.

@@ -42,12 +42,12 @@ fn words() {
         b"A line of a transcript is a record's answer, bytes delivered, input count, blocking count,\n",
     );
     tell(
-        b"ChaCha20 blocks and compressions, then the bytes in hexadecimal. A line of `look` is the number,\n",
+        b"ChaCha20 blocks, compressions and what its credit added, in eighths of a bit; then the bytes in\n",
     );
     tell(
-        b"0, the byte place, the kind and the fields of the record, then its bytes in hexadecimal; or the\n",
+        b"hexadecimal. A line of `look` is the number, 0, the byte place, the kind and the fields of the\n",
     );
-    tell(b"number and 18, past the last record.\n\n");
+    tell(b"record, then its bytes in hexadecimal; or the number and 18, past the last record.\n\n");
 }
 
 fn numbers() {

@@ -1,6 +1,6 @@
 -- Plans that answer 0, call by call: the record is in range, and which parts of the plan do something.
 use mathlib.Core.Path.{_≡_, refl, sym, ap, ap₂, _∙_}
-use mathlib.Core.Bool.{Bool, true, false, _&&_}
+use mathlib.Core.Bool.{Bool, true, false, _&&_, false≢true}
 use Prim.Native.Nat.{ℕ, _≤_, _<_}
 use native.Mathlib.Omega.{arith}
 use lib.Dec.{ltb, leb, eqb}
@@ -74,6 +74,7 @@ pub record EventPlan (device : ℕ) (p : Plan) : Type 0 where
 pub record InterruptPlan (p : Plan) : Type 0 where
   pub keeps : p .keeps ≡ false
   pub stirs : p .stirs ≡ true
+  pub unfed : p .feeds ≡ false → p .reseed ≡ 0
   pub rest-still : Feeds p
 
 -- a write or a seed
@@ -133,8 +134,8 @@ interrupt-plan others l t now number =
     let P = InterruptPlan in
     in-or-out P others l t (interrupt now number)
     (pick-both (Where0 P) _
-    (λ e. record { keeps = refl; stirs = refl; rest-still = record { transfer = refl; deliver = refl; stream = refl } })
-    (λ e. record { keeps = refl; stirs = refl; rest-still = record { transfer = refl; deliver = refl; stream = refl } }))
+    (λ e. record { keeps = refl; stirs = refl; unfed = λ h. refl; rest-still = record { transfer = refl; deliver = refl; stream = refl } })
+    (λ e. record { keeps = refl; stirs = refl; unfed = λ h. absurd (false≢true (sym h)); rest-still = record { transfer = refl; deliver = refl; stream = refl } }))
 
 -- a write reseeds nothing
 pub record WritePlan (p : Plan) : Type 0 where

@@ -33,7 +33,7 @@ use Rattle.keeper.specs.Obey.{fastAfter, forReseed, forTransfer, forDelivery, f
 use Rattle.keeper.specs.declared.Keeper.{Keeper}
 use Rattle.ledger.specs.declared.Answer.{Answer}
 use Rattle.keeper.proofs.Counter.{key-length, generated-length}
-use Rattle.keeper.proofs.Carried.{answer-is, none-taken, none-made, streamedBy, rests-blocking, rests-generator, still-generator}
+use Rattle.keeper.proofs.Carried.{answer-is, none-taken, none-made, streamedBy, rests-blocking, rests-generator, still-generator, untouched}
 use Rattle.keeper.proofs.Same.{same}
 use Rattle.keeper.proofs.Refusals.{demand-1}
 use Rattle.steps.specs.Promise.{Left, left, over, leaves}
@@ -187,29 +187,49 @@ event-done k device now stamp value p ts xs ys s u g ep sh hw et em ey eu eg =
     ∙ sym (accepted k c [] p ep ∙ fed c p k [] (sh .rest-still))
 
 -- ---- interrupt
-interrupt-takes : (p : Plan) (k : Keeper) (now number stamp address : ℕ) → p .stirs ≡ true
-    → forReseed (interrupted now number stamp address) p k
-    ≡ extract inputShape (p .reseed) (mix inputShape (inputPool k) (pick (p .feeds) (wordsBytes (stirred now number stamp address (k .fast))) []))
-unfolding pick
-interrupt-takes p k now number stamp address e = rw e refl
-
 interrupt-stirs : (p : Plan) (k : Keeper) (now number stamp address : ℕ) → p .stirs ≡ true
     → fastAfter (interrupted now number stamp address) p k ≡ stirred now number stamp address (k .fast)
 unfolding pick
 interrupt-stirs p k now number stamp address e = rw e refl
 
+-- one that only stirs
+pub interrupt-stays : (k : Keeper) (now number stamp address : ℕ) (p : Plan) (fast : List ℕ)
+    → Planned k (interrupt now number) p → InterruptPlan p → p .feeds ≡ false
+    → fast ≡ stirred now number stamp address (k .fast)
+    → left (keeperOf (withSpots (k .ledger .input .spot) (k .ledger .blocking .spot) (p .ledger)) (timersIn k) (k .input) (k .blocking) fast (k .generator)) (answerOf p) []
+    ≡ leaves k (interrupted now number stamp address) []
+unfolding xorAt bytesWords
+interrupt-stays k now number stamp address p fast ep sh eq ef =
+    let c = interrupted now number stamp address in
+    let r = sym (untouched c p k eq (sh .unfed eq)) in
+    parts (ap (λ (e : Extract). withSpots (e .pool .spot) (k .ledger .blocking .spot) (p .ledger)) r)
+    (sym (kept-off p 0 (timersIn k) (sh .keeps)))
+    (ap (λ (e : Extract). e .pool .words) r)
+    refl
+    (ef ∙ sym (interrupt-stirs p k now number stamp address (sh .stirs)))
+    (ap (λ (e : Extract). ontoKey (e .bytes) (k .generator)) r)
+    refl
+    ∙ sym (accepted k c [] p ep ∙ fed c p k [] (sh .rest-still))
+
+-- one that spills
+interrupt-takes : (p : Plan) (k : Keeper) (now number stamp address : ℕ) → p .stirs ≡ true → p .feeds ≡ true
+    → forReseed (interrupted now number stamp address) p k
+    ≡ extract inputShape (p .reseed) (mix inputShape (inputPool k) (wordsBytes (stirred now number stamp address (k .fast))))
+unfolding pick
+interrupt-takes p k now number stamp address e f = rw (e, f) refl
+
 pub interrupt-done : (k : Keeper) (now number stamp address : ℕ) (p : Plan) (fast xs ys : List ℕ) (s u : Spot) (g : List ℕ)
     → let e = extract (shapeOf (length xs)) (p .reseed) (record { words = xs; spot = s }) in
-    Planned k (interrupt now number) p → InterruptPlan p → length (k .input) ≡ inputWords
+    Planned k (interrupt now number) p → InterruptPlan p → p .feeds ≡ true → length (k .input) ≡ inputWords
     → fast ≡ stirred now number stamp address (k .fast)
-    → _≡_ {A = Pool} (record { words = xs; spot = s }) (mix (shapeOf (length (k .input))) (inputPool k) (pick (p .feeds) (wordsBytes fast) []))
+    → _≡_ {A = Pool} (record { words = xs; spot = s }) (mix (shapeOf (length (k .input))) (inputPool k) (wordsBytes fast))
     → ys ≡ e .pool .words → u ≡ e .pool .spot → g ≡ ontoKey (e .bytes) (k .generator)
     → left (keeperOf (withSpots u (k .ledger .blocking .spot) (p .ledger)) (timersIn k) ys (k .blocking) fast g) (answerOf p) []
     ≡ leaves k (interrupted now number stamp address) []
-interrupt-done k now number stamp address p fast xs ys s u g ep sh hw ef em ey eu eg =
+interrupt-done k now number stamp address p fast xs ys s u g ep sh es hw ef em ey eu eg =
     let c = interrupted now number stamp address in
-    let m = mixed (k .input) xs _ s _ hw em ∙ ap (λ (f : List ℕ). mix inputShape (inputPool k) (pick (p .feeds) (wordsBytes f) [])) ef in
-    let r = reseeded xs s _ (p .reseed) (mixed-128 (k .input) xs _ s _ hw em) m ∙ sym (interrupt-takes p k now number stamp address (sh .stirs)) in
+    let m = mixed (k .input) xs _ s _ hw em ∙ ap (λ (f : List ℕ). mix inputShape (inputPool k) (wordsBytes f)) ef in
+    let r = reseeded xs s _ (p .reseed) (mixed-128 (k .input) xs _ s _ hw em) m ∙ sym (interrupt-takes p k now number stamp address (sh .stirs) es) in
     parts (ap (λ (v : Spot). withSpots v (k .ledger .blocking .spot) (p .ledger)) (eu ∙ ap (λ (e : Extract). e .pool .spot) r))
     (sym (kept-off p 0 (timersIn k) (sh .keeps)))
     (ey ∙ ap (λ (e : Extract). e .pool .words) r)

@@ -75,8 +75,13 @@ pub fn interrupt_on(
     if p.number != DONE {
         return answered(l, p.number);
     }
+    // Most interrupts only stir. What they do stands by itself, so that nothing of the ledger has to wait for a call to return.
+    if !p.feeds {
+        stir(fast, at, number, stamp, address);
+        return carried_out(p, l.input.spot, l.blocking.spot);
+    }
     stir(fast, at, number, stamp, address);
-    let fed = spill(&mut input[..], l.input.spot, fast, p.feeds);
+    let fed = spill(&mut input[..], l.input.spot, fast);
     let s = reseed(&mut input[..], fed, &mut generator[..], p.reseed);
     carried_out(p, s, l.blocking.spot)
 }
