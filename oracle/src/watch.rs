@@ -293,11 +293,11 @@ mod tests {
         out
     }
 
-    fn shown(records: &[Record]) -> Shown {
+    pub(super) fn shown(records: &[Record]) -> Shown {
         Shown::by(&journal(records))
     }
 
-    fn event(device: u8, now: u32) -> Record<'static> {
+    pub(super) fn event(device: u8, now: u32) -> Record<'static> {
         Record::Device {
             now,
             device,
@@ -306,7 +306,7 @@ mod tests {
         }
     }
 
-    fn interrupt(now: u32) -> Record<'static> {
+    pub(super) fn interrupt(now: u32) -> Record<'static> {
         Record::Interrupt {
             now,
             number: 1,
@@ -315,7 +315,7 @@ mod tests {
         }
     }
 
-    fn seed(now: u32, credit: u32, length: usize) -> Record<'static> {
+    pub(super) fn seed(now: u32, credit: u32, length: usize) -> Record<'static> {
         Record::Seed {
             now,
             credit,

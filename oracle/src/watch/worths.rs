@@ -124,35 +124,17 @@ fn right_after_adding(step: &Step) -> Option<(Situation, u32)> {
 
 #[cfg(test)]
 mod tests {
-    use crate::journal::{self, Record};
+    use crate::journal::Record;
     use crate::situations::{Creditor, Seeder, Situation, Situation::*, Worth};
-    use crate::watch::Shown;
+    use crate::watch::tests::{self, interrupt, shown};
     use std::borrow::Cow;
 
     fn event(now: u32) -> Record<'static> {
-        Record::Device {
-            now,
-            device: 3,
-            stamp: 1,
-            value: 2,
-        }
-    }
-
-    fn interrupt(now: u32) -> Record<'static> {
-        Record::Interrupt {
-            now,
-            number: 1,
-            stamp: 2,
-            address: 3,
-        }
+        tests::event(3, now)
     }
 
     fn seed(credit: u32) -> Record<'static> {
-        Record::Seed {
-            now: 0,
-            credit,
-            bytes: Cow::Owned(vec![9; 4_096]),
-        }
+        tests::seed(0, credit, 4_096)
     }
 
     fn write() -> Record<'static> {
@@ -173,14 +155,6 @@ mod tests {
     /// Three events that earn nothing and two that do.
     fn five() -> [Record<'static>; 5] {
         [16, 80, 300, 800, 3_000].map(event)
-    }
-
-    fn shown(records: &[Record]) -> Shown {
-        let mut journal = journal::header(&[7; 48]);
-        for record in records {
-            record.write(&mut journal);
-        }
-        Shown::by(&journal)
     }
 
     /// How often a call was worth nothing, no units, and units in one turn.
