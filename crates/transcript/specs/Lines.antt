@@ -20,9 +20,13 @@ lineOf a input blocking bytes = numbersOf a input blocking ++ (tailOf bytes ++ (
 unfoldable pub endOf : ℕ → List ℕ
 endOf n = (101 ∷ 110 ∷ 100 ∷ 32 ∷ []) ++ (decimalOf n ++ (10 ∷ []))
 
--- the longest line with n bytes, and the longest last line; src/lines.rt has them by name too
+-- the longest that a line's numbers are, seven of ten digits and six spaces; the longest line with n bytes, which has a space before them
+-- and a newline behind them; the longest last line. src/lines.rt has the lines by name too
+abbrev pub longestNumbers : ℕ
+longestNumbers = 76
+
 abbrev pub longestLine : ℕ → ℕ
-longestLine n = 78 + 2 * n
+longestLine n = longestNumbers + 2 + 2 * n
 
 abbrev pub longestEnd : ℕ
 longestEnd = 15

@@ -3,7 +3,7 @@ ghost use mathlib.Core.Path.{_≡_};
 ghost use Prim.Native.Nat.{_≤_};
 ghost use lib.ListN.{length};
 ghost use Rattle.transcript.specs.Text.{Put};
-ghost use Rattle.transcript.specs.Lines.{numbersOf, lineIn, endIn};
+ghost use Rattle.transcript.specs.Lines.{numbersOf, longestNumbers, lineIn, endIn};
 use crate::text::number;
 use crate::text::tail;
 use crate::text::word;
@@ -17,11 +17,11 @@ pub const LONGEST_LINE: usize = LONGEST_BARE + 2 * LONGEST;
 
 pub const LONGEST_END: usize = 15;
 
-// Writes the seven numbers of a line at the start of a room, and answers where they end: at most seven times ten digits and six spaces.
+// Writes the seven numbers of a line at the start of a room, and answers where they end.
 fn numbers(answer: Answer, input: u32, blocking: u32, room: &mut [u8]) -> usize
-    requires { ⌜ 76 ≤ length (now room) ⌝ }
+    requires { ⌜ longestNumbers ≤ length (now room) ⌝ }
     ensures { λ r. ⌜ Put (now (room .entry)) (now (room .exit)) 0 (numbersOf answer input blocking) r ⌝ }
-    ensures { λ r. ⌜ r ≤ 76 ⌝ }
+    ensures { λ r. ⌜ r ≤ longestNumbers ⌝ }
 {
     let a = word(answer.number, room, 0);
     let b = word(answer.delivered, room, a);
