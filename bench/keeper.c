@@ -11,11 +11,13 @@
 #include "../include/nk.h"
 #include "limits.h"
 #include "plain_keeper.h"
+#include "plain_range.h"
 #include "rows.h"
 
-enum { ROUNDS = 40, LENGTH = 4096, BLOCKING_LENGTH = 128, MOST_CALLS = 20000 };
+enum { ROUNDS = 40, LENGTH = 4096, BLOCKING_LENGTH = 128, MOST_CALLS = 2048 };
 
 struct keeper_calls {
+    struct nk_answer (*make)(struct nk_keeper *, const uint8_t *, size_t);
     struct nk_answer (*event)(struct nk_keeper *, uint32_t, uint32_t, uint64_t, uint32_t);
     struct nk_answer (*interrupt)(struct nk_keeper *, uint32_t, uint32_t, uint64_t, uint64_t);
     struct nk_answer (*write)(struct nk_keeper *, const uint8_t *, size_t);
@@ -44,6 +46,15 @@ static double now(void) {
 }
 
 /* Each workload makes n calls. */
+
+static void makes(struct side *s, const struct keeper_calls *c, unsigned n) {
+    for (unsigned i = 0; i < n; i++) s->answers[i] = c->make(&s->keeper, noise + i % 64, NK_START_LENGTH);
+}
+
+/* a read of no bytes tests the range and does nothing else */
+static void range_tests(struct side *s, const struct keeper_calls *c, unsigned n) {
+    for (unsigned i = 0; i < n; i++) s->answers[i] = c->read(&s->keeper, s->keeper.ledger.seeding.clock + i, s->room, 0);
+}
 
 static void events(struct side *s, const struct keeper_calls *c, unsigned n) {
     for (unsigned i = 0; i < n; i++) {
@@ -84,26 +95,16 @@ static void blocking_reads(struct side *s, const struct keeper_calls *c, unsigne
     }
 }
 
-/* What no program could do a call of each in less than. */
+/* What no program could do a call of each in less than. The range test waits for nothing that a call does, so it may go on beside it, and
+   the longer of the two is the limit. */
 
-static double sixteen_bytes(void) { return 16 * limit_byte(); }
+static double larger(double a, double b) { return a > b ? a : b; }
 static double all_timers(void) { return limit_timers(NK_DEVICES); }
+static double sixteen_bytes(void) { return larger(16 * limit_byte(), all_timers()); }
 static double long_write(void) { return 4096 * limit_byte(); }
 static double long_read(void) { return 65 * limit_block(); }
 static double long_blocking_read(void) { return 120 * limit_compression(); }
-
-static const struct workload {
-    const char *name;
-    void (*run)(struct side *, const struct keeper_calls *, unsigned);
-    unsigned calls;
-    struct nk_answer each; /* what every call must answer, so that the work measured is the work meant */
-    double (*limit)(void);
-} workloads[] = {{"device event", events, 20000, {NK_DONE, 0, 0, 0, 0}, sixteen_bytes},
-                 {"interrupt without spill", interrupts, 20000, {NK_DONE, 0, 0, 0, 0}, all_timers},
-                 {"interrupt with spill", spills, 20000, {NK_DONE, 0, 0, 0, 0}, sixteen_bytes},
-                 {"write of 4,096 bytes", writes, 100, {NK_DONE, 0, 0, 0, 0}, long_write},
-                 {"generator read of 4,096 bytes", reads, 200, {NK_DONE, 4096, 65, 0, 0}, long_read},
-                 {"blocking read of 128 bytes", blocking_reads, 60, {NK_DONE, 78, 0, 120, 4992}, long_blocking_read}};
+static double no_limit(void) { return 0; }
 
 /* After so much credit the input pool is so full that no event and no spill adds a unit, so that all of a workload's calls answer alike. */
 static void make_ready(struct nk_keeper *k) {
@@ -112,11 +113,40 @@ static void make_ready(struct nk_keeper *k) {
     for (int i = 0; i < 4; i++) plain_seed(k, 1000, noise, LENGTH, 8 * LENGTH);
 }
 
-static const struct keeper_calls calls[2] = {{nk_event, nk_interrupt, nk_write, nk_read, nk_blocking_read},
-                                             {plain_event, plain_interrupt, plain_write, plain_read, plain_blocking_read}};
+/* A generator read whose range test is the one that comes to mind first; only reads of no bytes are made by it. */
+static struct nk_answer obvious_read(struct nk_keeper *k, uint32_t now, uint8_t *out, size_t len) {
+    struct nk_answer a = {plain_in_range_obvious(k) ? NK_DONE : NK_OUT_OF_RANGE, 0, 0, 0, 0};
+    return len == 0 ? a : plain_read(k, now, out, len);
+}
+
+static const struct keeper_calls proved = {nk_make, nk_event, nk_interrupt, nk_write, nk_read, nk_blocking_read};
+static const struct keeper_calls plain = {plain_make, plain_event, plain_interrupt, plain_write, plain_read, plain_blocking_read};
+static const struct keeper_calls obvious = {plain_make, plain_event, plain_interrupt, plain_write, obvious_read, plain_blocking_read};
+
+enum { RANGE_TEST, OBVIOUS_RANGE_TEST, MAKES, EVENTS, INTERRUPTS, SPILLS, WRITES, READS, BLOCKING_READS, WORKLOADS };
+
+static const struct workload {
+    const char *name;
+    const struct keeper_calls *against;
+    void (*run)(struct side *, const struct keeper_calls *, unsigned);
+    unsigned calls;
+    struct nk_answer each; /* what every call must answer, so that the work measured is the work meant */
+    double (*limit)(void);
+} workloads[WORKLOADS] = {
+    [RANGE_TEST] = {"range test of 1,024 devices: a read of 0 bytes", &plain, range_tests, 2048, {NK_DONE, 0, 0, 0, 0}, all_timers},
+    [OBVIOUS_RANGE_TEST] = {
+        ".. against C that stops at the first out of range", &obvious, range_tests, 2048, {NK_DONE, 0, 0, 0, 0}, all_timers},
+    [MAKES] = {"making a keeper", &plain, makes, 2048, {NK_DONE, 0, 0, 0, 0}, no_limit},
+    [EVENTS] = {"device event", &plain, events, 2048, {NK_DONE, 0, 0, 0, 0}, sixteen_bytes},
+    [INTERRUPTS] = {"interrupt without spill", &plain, interrupts, 2048, {NK_DONE, 0, 0, 0, 0}, all_timers},
+    [SPILLS] = {"interrupt with spill", &plain, spills, 2048, {NK_DONE, 0, 0, 0, 0}, sixteen_bytes},
+    [WRITES] = {"write of 4,096 bytes", &plain, writes, 100, {NK_DONE, 0, 0, 0, 0}, long_write},
+    [READS] = {"generator read of 4,096 bytes", &plain, reads, 200, {NK_DONE, 4096, 65, 0, 0}, long_read},
+    [BLOCKING_READS] = {"blocking read of 128 bytes", &plain, blocking_reads, 60, {NK_DONE, 78, 0, 120, 4992}, long_blocking_read}};
 
 /* Runs a workload on both sides; what each call took at the least is then in sides[].least. `each` may be left out. */
 static void measure(const struct workload *load, const struct nk_answer *each) {
+    const struct keeper_calls *const calls[2] = {&proved, load->against};
     for (int k = 0; k < 2; k++) {
         memset(&sides[k], 0, sizeof sides[k]);
         make_ready(&sides[k].keeper);
@@ -126,7 +156,7 @@ static void measure(const struct workload *load, const struct nk_answer *each) {
         for (int turn = 0; turn < 2; turn++) {
             int k = (round + turn) % 2;
             double from = now();
-            load->run(&sides[k], &calls[k], load->calls);
+            load->run(&sides[k], calls[k], load->calls);
             double took = (now() - from) / load->calls;
             if (took < sides[k].least) sides[k].least = took;
         }
@@ -143,32 +173,53 @@ static void measure(const struct workload *load, const struct nk_answer *each) {
     }
 }
 
-int main(void) {
+/* How the proved calls' cost grows with the length. */
+static void measure_lengths(const struct workload *load, const char *what) {
     static const size_t lengths[] = {64, 256, 1024, 4096};
-    static const unsigned sets[] = {1, 4, 16};
-    for (size_t i = 0; i < sizeof noise; i++) noise[i] = (uint8_t)(i * 167 + (i >> 3));
-    for (size_t w = 0; w < sizeof workloads / sizeof *workloads; w++) {
-        measure(&workloads[w], &workloads[w].each);
-        print_row(workloads[w].name, sides[0].least, sides[1].least, 0, workloads[w].limit());
-    }
     char name[64];
     for (size_t i = 0; i < sizeof lengths / sizeof *lengths; i++) {
         length = lengths[i];
-        measure(&workloads[3], NULL);
-        snprintf(name, sizeof name, "write of %zu bytes", length);
+        measure(load, NULL);
+        snprintf(name, sizeof name, "%s of %zu bytes", what, length);
         print_growth(name, sides[0].least, (double)length);
     }
-    for (size_t i = 0; i < sizeof lengths / sizeof *lengths; i++) {
-        length = lengths[i];
-        measure(&workloads[4], NULL);
-        snprintf(name, sizeof name, "generator read of %zu bytes", length);
-        print_growth(name, sides[0].least, (double)length);
-    }
+}
+
+/* .. and with the devices that have events in turn, up to all that there are. */
+static void measure_devices(void) {
+    static const unsigned sets[] = {1, 16, 256, NK_DEVICES};
+    char name[64];
     for (size_t i = 0; i < sizeof sets / sizeof *sets; i++) {
         devices = sets[i];
-        measure(&workloads[0], NULL);
+        measure(&workloads[EVENTS], NULL);
         snprintf(name, sizeof name, "event, %u devices in turn", devices);
         print_growth(name, sides[0].least, 0);
     }
+}
+
+/* The bytes that the range test reads, in plain C that does no more than read them. */
+static void measure_reading(void) {
+    enum { TIMES = 2048 };
+    double least = 1e18;
+    volatile uint64_t all = 0;
+    for (int round = 0; round < ROUNDS; round++) {
+        double from = now();
+        for (int i = 0; i < TIMES; i++) all |= plain_read_timers(&sides[0].keeper);
+        double took = (now() - from) / TIMES;
+        if (took < least) least = took;
+    }
+    print_growth("all timers only read, plain C", least, (2 * sizeof(int64_t) + 1) * NK_DEVICES);
+}
+
+int main(void) {
+    for (size_t i = 0; i < sizeof noise; i++) noise[i] = (uint8_t)(i * 167 + (i >> 3));
+    for (const struct workload *w = workloads; w < workloads + WORKLOADS; w++) {
+        measure(w, &w->each);
+        print_row(w->name, sides[0].least, sides[1].least, 0, w->limit());
+    }
+    measure_lengths(&workloads[WRITES], "write");
+    measure_lengths(&workloads[READS], "generator read");
+    measure_devices();
+    measure_reading();
     return 0;
 }

@@ -1,48 +1,19 @@
 /* The index of a journal in plain C (plain_index.h). */
 #include "plain_index.h"
+#include "plain_journal.h"
 #include <string.h>
 
-enum { HEADER = 53, EVERY = 64, LONGEST = 4096 };
-
-static const uint8_t head_of[7] = {0, 18, 25, 7, 11, 7, 7};
-
-static uint32_t two(const uint8_t *p) {
-    return p[0] | (uint32_t)p[1] << 8;
-}
-
-/* The number that stands at a position, or 0 and the position after the record there. */
-static uint32_t step(const uint8_t *j, size_t len, size_t at, size_t *next) {
-    uint8_t kind = j[at];
-    if (kind < 1 || kind > 6) return 11;
-    if (len - at < head_of[kind]) return 10;
-    size_t end = at + head_of[kind];
-    if (kind == 3 || kind == 4) {
-        uint32_t carried = two(j + at + 5);
-        if (carried > LONGEST) return 3;
-        if (len - end < carried) return 10;
-        end += carried;
-    }
-    *next = end;
-    return 0;
-}
-
-static uint32_t header(const uint8_t *j, size_t len) {
-    if (len > NK_ROOM) return 12;
-    if (len < 3 || j[0] != 'N' || j[1] != 'K' || j[2] != 'J') return 8;
-    if (len < 5) return 10;
-    if (two(j + 3) != 1) return 9;
-    return len < HEADER ? 10 : 0;
-}
+enum { EVERY = 64 };
 
 /* Adds the records from a position on to an index of *many records; the bytes stand `base` further on in the journal. */
-static uint32_t add(const uint8_t *j, size_t len, size_t at, size_t base, struct nk_index *index, uint32_t *many) {
+static uint32_t add(uint32_t version, const uint8_t *j, size_t len, size_t at, size_t base, struct nk_index *index, uint32_t *many) {
     while (at < len) {
         size_t next;
-        uint32_t number = step(j, len, at, &next);
+        uint32_t number = journal_step(version, j, len, at, &next);
         if (number != 0) return number;
         if (*many % EVERY == 0) index->places[*many / EVERY] = (uint32_t)(base + at);
         index->kinds[j[at] - 1]++;
-        if (j[at] >= 5) index->reads += two(j + at + 5);
+        if (j[at] >= JOURNAL_READ) index->reads += journal_two(j + at + 5);
         ++*many;
         at = next;
     }
@@ -53,8 +24,8 @@ struct nk_fresh plain_fresh_index(const uint8_t *room, size_t len) {
     struct nk_fresh fresh;
     uint32_t many = 0;
     memset(&fresh, 0, sizeof fresh);
-    fresh.number = header(room, len);
-    if (fresh.number == 0) fresh.number = add(room, len, HEADER, 0, &fresh.index, &many);
+    fresh.number = journal_header(room, len);
+    if (fresh.number == 0) fresh.number = add(journal_version(room), room, len, JOURNAL_HEADER, 0, &fresh.index, &many);
     if (fresh.number != 0) memset(&fresh.index, 0, sizeof fresh.index);
     return fresh;
 }
@@ -73,7 +44,7 @@ struct nk_appended plain_append(uint8_t *room, size_t len, const struct nk_index
     if (done.number == 0 && more_len > NK_ROOM - len) done.number = 12;
     if (done.number != 0) return done;
     uint32_t many = records(&fresh.index);
-    done.number = add(more, more_len, 0, len, &fresh.index, &many);
+    done.number = add(journal_version(room), more, more_len, 0, len, &fresh.index, &many);
     if (done.number != 0) return done;
     memcpy(room + len, more, more_len);
     done.len = len + more_len;
@@ -94,7 +65,7 @@ uint32_t plain_look(const uint8_t *room, size_t len, const struct nk_index *inde
             continue;
         }
         size_t at = index->places[numbers[i] / EVERY];
-        for (uint32_t k = numbers[i] % EVERY; k > 0; k--) step(room, len, at, &at);
+        for (uint32_t k = numbers[i] % EVERY; k > 0; k--) journal_step(journal_version(room), room, len, at, &at);
         answers[i] = 0;
         places[i] = (uint32_t)at;
     }
@@ -102,10 +73,10 @@ uint32_t plain_look(const uint8_t *room, size_t len, const struct nk_index *inde
 }
 
 size_t plain_count(const uint8_t *j, size_t len, uint32_t number) {
-    size_t at = HEADER;
+    size_t at = JOURNAL_HEADER;
     while (at < len) {
         size_t next;
-        if (step(j, len, at, &next) != 0) return 0;
+        if (journal_step(journal_version(j), j, len, at, &next) != 0) return 0;
         if (number-- == 0) return at;
         at = next;
     }

@@ -2,6 +2,8 @@
    speed and for reading, over the record of nk.h. The proved keeper is measured against it and compared with it. */
 #include "plain_keeper.h"
 #include "plain.h"
+#include "plain_range.h"
+#include <string.h>
 
 enum { INPUT_SIZE = 32768, BLOCKING_SIZE = 8192 }; /* in eighths of a bit */
 enum { FIRST_SEEDING = 1024, RESEED_AFTER = 300000, SPILL_AFTER = 1000, SPILL_AT = 64 };
@@ -40,26 +42,6 @@ static inline uint32_t get32(const uint8_t *from) {
 
 static inline int32_t since(uint32_t now, uint32_t then) {
     return (int32_t)(now - then);
-}
-
-static int in_range(const struct nk_keeper *k) {
-    const struct nk_ledger *l = &k->ledger;
-    if (l->input.count > INPUT_SIZE || l->blocking.count > BLOCKING_SIZE || l->spill.tally >= SPILL_AT) return 0;
-    if (l->input.spot.at > 127 || l->input.spot.turn > 31) return 0;
-    if (l->blocking.spot.at > 31 || l->blocking.spot.turn > 31) return 0;
-    for (int i = 0; i < 4; i++)
-        if (k->generator[i] != constants[i]) return 0;
-    /* no way out of the loops, so that the compiler can take several timers at a time; where its timer is in range, each number of the
-       first loop is below 2^32, and each of the second has two bits */
-    uint64_t out = 0;
-    uint8_t came = 0;
-    for (int i = 0; i < NK_DEVICES; i++) {
-        uint64_t first = (uint64_t)k->firsts[i], second = (uint64_t)k->seconds[i];
-        out |= first + 0x80000000u;
-        out |= k->seconds[i] < 0 ? -second : second;
-    }
-    for (int i = 0; i < NK_DEVICES; i++) came |= k->came[i];
-    return (out >> 32 | came >> 2) == 0;
 }
 
 /* Pools. The shape is a constant in every use, and the inner functions are inlined, so each pool gets code of its own. */
@@ -172,9 +154,8 @@ static struct nk_answer credit_input(struct nk_keeper *k, uint32_t now, uint32_t
 /* The calls. */
 
 struct nk_answer plain_make(struct nk_keeper *k, const uint8_t *start, size_t start_len) {
-    static const struct nk_keeper fresh;
     if (start_len != NK_START_LENGTH) return refusal(NK_START_NOT_48);
-    *k = fresh;
+    memset(k, 0, sizeof *k);
     for (int i = 0; i < 4; i++) k->generator[i] = constants[i];
     for (int i = 0; i < 12; i++) k->generator[4 + i] = get32(start + 4 * i);
     return done();
@@ -186,7 +167,7 @@ static inline uint64_t amount(int64_t x) {
 
 struct nk_answer plain_event(struct nk_keeper *k, uint32_t device, uint32_t now, uint64_t stamp, uint32_t value) {
     uint8_t bytes[16];
-    if (!in_range(k)) return refusal(NK_OUT_OF_RANGE);
+    if (!plain_in_range(k)) return refusal(NK_OUT_OF_RANGE);
     if (device >= NK_DEVICES) return refusal(NK_NO_SUCH_DEVICE);
     if (device == 0 && value == k->ledger.value) return refusal(NK_REPEATED);
     put32(bytes, (uint32_t)stamp);
@@ -214,7 +195,7 @@ struct nk_answer plain_event(struct nk_keeper *k, uint32_t device, uint32_t now,
 
 struct nk_answer plain_interrupt(struct nk_keeper *k, uint32_t now, uint32_t number, uint64_t stamp, uint64_t address) {
     uint8_t bytes[16];
-    if (!in_range(k)) return refusal(NK_OUT_OF_RANGE);
+    if (!plain_in_range(k)) return refusal(NK_OUT_OF_RANGE);
     uint32_t a = k->fast[0] ^ (uint32_t)stamp ^ number;
     uint32_t b = k->fast[1] ^ now ^ (uint32_t)(stamp >> 32);
     uint32_t c = k->fast[2] ^ (uint32_t)address;
@@ -239,14 +220,14 @@ struct nk_answer plain_interrupt(struct nk_keeper *k, uint32_t now, uint32_t num
 }
 
 struct nk_answer plain_write(struct nk_keeper *k, const uint8_t *bytes, size_t len) {
-    if (!in_range(k)) return refusal(NK_OUT_OF_RANGE);
+    if (!plain_in_range(k)) return refusal(NK_OUT_OF_RANGE);
     if (len > NK_LENGTH_MOST) return refusal(NK_TOO_LONG);
     mix_input(k, bytes, len);
     return done();
 }
 
 struct nk_answer plain_seed(struct nk_keeper *k, uint32_t now, const uint8_t *bytes, size_t len, uint32_t credit) {
-    if (!in_range(k)) return refusal(NK_OUT_OF_RANGE);
+    if (!plain_in_range(k)) return refusal(NK_OUT_OF_RANGE);
     if (len > NK_LENGTH_MOST) return refusal(NK_TOO_LONG);
     if (credit > 8 * len) return refusal(NK_CREDIT_TOO_HIGH);
     mix_input(k, bytes, len);
@@ -260,7 +241,7 @@ static void next_block(uint32_t generator[16], uint8_t *out) {
 
 struct nk_answer plain_read(struct nk_keeper *k, uint32_t now, uint8_t *out, size_t len) {
     uint8_t last[64];
-    if (!in_range(k)) return refusal(NK_OUT_OF_RANGE);
+    if (!plain_in_range(k)) return refusal(NK_OUT_OF_RANGE);
     if (len > NK_LENGTH_MOST) return refusal(NK_TOO_LONG);
     if (len == 0) return done();
     if (k->ledger.seeding.mark != 1) return refusal(NK_UNSEEDED);
@@ -286,7 +267,7 @@ struct nk_answer plain_read(struct nk_keeper *k, uint32_t now, uint8_t *out, siz
 
 struct nk_answer plain_blocking_read(struct nk_keeper *k, uint8_t *out, size_t len) {
     struct nk_ledger *l = &k->ledger;
-    if (!in_range(k)) return refusal(NK_OUT_OF_RANGE);
+    if (!plain_in_range(k)) return refusal(NK_OUT_OF_RANGE);
     if (len > NK_LENGTH_MOST) return refusal(NK_TOO_LONG);
     if (len == 0) return done();
     if (l->blocking.count < 64 && l->input.count < 512) return refusal(NK_WOULD_BLOCK);

@@ -1,8 +1,8 @@
 /* The noise keeper, as C calls it. docs/HEADER.md says for each sentence what holds it: a proof, a test, or the caller.
  *
- * A keeper is one record, struct nk_keeper, that the caller owns and lends to each call; the call changes it in place. There is no
- * other state: no heap, no globals, nothing to close. nk_make makes a keeper of any memory; the other six calls work on a keeper
- * that was made. examples/terminal/ is a terminal built on it.
+ * A keeper is one record, struct nk_keeper, of 22,272 bytes, that the caller owns and lends to each call; the call changes it in place, and
+ * copies none of its arrays. There is no other state: no heap, no globals, nothing to close. nk_make makes a keeper of any memory; the
+ * other six calls work on a keeper that was made. examples/terminal/ is a terminal built on it.
  *
  * What goes in: device events and interrupts (noise that the keeper credits by its own estimate), writes (noise with no credit) and
  * seeds (noise with the credit that the caller names). What comes out: generator bytes (nk_read), once the keeper has been seeded,
@@ -61,6 +61,7 @@
  *   nk_seed            4,096 bytes mixed; if it seeds, 32 compressions
  *   nk_read            65 blocks; if it seeds anew, 32 compressions
  *   nk_blocking_read   130 compressions, 128 bytes mixed
+ * Each call but nk_make reads the timers of all 1,024 devices first, 17 KB, whether it uses one or none, to tell NK_OUT_OF_RANGE.
  *
  * CLOCKS. `now` is a free-running 32-bit clock of 1,000 ticks a second. It may wrap, and it may run back: a difference of two clocks is
  * taken modulo 2^32 and read as signed, so one of 2^31 ticks or more (24.8 days) reads as a clock that ran back. Then
@@ -107,7 +108,7 @@ enum {
     NK_WOULD_BLOCK = 1,     /* blocking read: neither pool has enough credit. Feed noise, and ask again */
     NK_UNSEEDED = 2,        /* generator read: never seeded so far. Feed noise, or seed */
     NK_TOO_LONG = 3,        /* a length over NK_LENGTH_MOST */
-    NK_NO_SUCH_DEVICE = 4,  /* a device over 15 */
+    NK_NO_SUCH_DEVICE = 4,  /* a device over 1,023 */
     NK_CREDIT_TOO_HIGH = 5, /* a seed's credit above 8 bits for each of its bytes */
     NK_START_NOT_48 = 6,    /* a making from another number of bytes than 48 */
     NK_REPEATED = 7,        /* device 0 told the same value again */
@@ -116,7 +117,7 @@ enum {
 
 /* Sizes: devices, words of the record's four secret arrays, and bytes. */
 enum {
-    NK_DEVICES = 16,
+    NK_DEVICES = 1024,
     NK_INPUT_WORDS = 128,
     NK_BLOCKING_WORDS = 32,
     NK_FAST_WORDS = 4,
@@ -205,16 +206,16 @@ NK_HOLDS(offsetof(struct nk_ledger, blocking) == 12);
 NK_HOLDS(offsetof(struct nk_ledger, value) == 24);
 NK_HOLDS(offsetof(struct nk_ledger, spill) == 28);
 NK_HOLDS(offsetof(struct nk_ledger, seeding) == 36);
-NK_HOLDS(sizeof(struct nk_keeper) == 1104);
+NK_HOLDS(sizeof(struct nk_keeper) == 22272);
 NK_HOLDS(offsetof(struct nk_keeper, ledger) == 0);
 NK_HOLDS(offsetof(struct nk_keeper, clocks) == 44);
-NK_HOLDS(offsetof(struct nk_keeper, firsts) == 112); /* four bytes of padding lie before it */
-NK_HOLDS(offsetof(struct nk_keeper, seconds) == 240);
-NK_HOLDS(offsetof(struct nk_keeper, came) == 368);
-NK_HOLDS(offsetof(struct nk_keeper, input) == 384);
-NK_HOLDS(offsetof(struct nk_keeper, blocking) == 896);
-NK_HOLDS(offsetof(struct nk_keeper, fast) == 1024);
-NK_HOLDS(offsetof(struct nk_keeper, generator) == 1040);
+NK_HOLDS(offsetof(struct nk_keeper, firsts) == 4144); /* four bytes of padding lie before it */
+NK_HOLDS(offsetof(struct nk_keeper, seconds) == 12336);
+NK_HOLDS(offsetof(struct nk_keeper, came) == 20528);
+NK_HOLDS(offsetof(struct nk_keeper, input) == 21552);
+NK_HOLDS(offsetof(struct nk_keeper, blocking) == 22064);
+NK_HOLDS(offsetof(struct nk_keeper, fast) == 22192);
+NK_HOLDS(offsetof(struct nk_keeper, generator) == 22208);
 NK_HOLDS(sizeof(struct nk_answer) == 20);
 NK_HOLDS(offsetof(struct nk_answer, number) == 0);
 NK_HOLDS(offsetof(struct nk_answer, delivered) == 4);
@@ -237,7 +238,7 @@ NK_LOOK struct nk_answer nk_make(struct nk_keeper *k, const uint8_t *start, size
  * compared with; they are mixed, and their clocks kept, as all are. An event that is refused is not kept and does not count.
  * An unseeded keeper that is credited at all and then has 128 bits is seeded at once.
  * Changes the input pool and its count, the device's timer, and for device 0 the last value; where it seeds, the generator's key too.
- * Refused, in this order: NK_OUT_OF_RANGE; NK_NO_SUCH_DEVICE, device over 15; NK_REPEATED, device 0 with the value of its last event
+ * Refused, in this order: NK_OUT_OF_RANGE; NK_NO_SUCH_DEVICE, device over 1,023; NK_REPEATED, device 0 with the value of its last event
  * that was kept (0 at first). */
 struct nk_answer nk_event(struct nk_keeper *k, uint32_t device, uint32_t now, uint64_t stamp, uint32_t value);
 

@@ -23,6 +23,9 @@ extern "C" unsigned faults_from_cxx() {
     expect(nk_event(&k, 0, 1024, 1, 0), NK_REPEATED, 0, 0, 0, 0);
     expect(nk_event(&k, 1, 1024, 1, 0), NK_DONE, 0, 0, 0, 0);
     if (k.came[0] != 0 || k.came[1] != 1 || k.ledger.input.count != 0) faults++;
+    expect(nk_event(&k, NK_DEVICES - 1, 1024, 1, 0), NK_DONE, 0, 0, 0, 0);
+    expect(nk_event(&k, NK_DEVICES, 1024, 1, 0), NK_NO_SUCH_DEVICE, 0, 0, 0, 0);
+    if (k.clocks[1023] != 1024 || k.firsts[1023] != 1024 || k.seconds[1023] != 1024 || k.came[1023] != 1) faults++;
     expect(nk_interrupt(&k, 5, 1, 2, 3), NK_DONE, 0, 0, 0, 0);
     expect(nk_write(&k, seed, sizeof seed), NK_DONE, 0, 0, 0, 0);
     expect(nk_seed(&k, 7, seed, sizeof seed, 4096), NK_DONE, 0, 0, 32, 19968);

@@ -2,10 +2,8 @@
    looks like) and makes each call through the C face: the number, every number of an index that is answered, the length, all 61,440 bytes
    of the room, and all 64 answers and places of a look-up must be the trace's. What is handed in to be read, and bytes around all that is
    lent, must stay. Prints how many calls were followed; the exit status is 1 at the first difference. */
-#include <inttypes.h>
 #include <stdint.h>
 #include <stdio.h>
-#include <stdlib.h>
 #include <string.h>
 
 #include "nk_index.h"
@@ -31,49 +29,6 @@ static struct {
 
 static size_t length;
 static struct nk_index held;
-static uint64_t number_up_to(char **rest, uint64_t most) {
-    char *end;
-    const char *w = word(rest);
-    uint64_t n = strtoull(w, &end, 10);
-    if (*w < '0' || *w > '9' || *end || n > most) fail("a word that is no such number");
-    return n;
-}
-
-static uint32_t number(char **rest) { return (uint32_t)number_up_to(rest, UINT32_MAX); }
-
-static uint8_t digit(char c) {
-    if (c >= '0' && c <= '9') return (uint8_t)(c - '0');
-    if (c < 'a' || c > 'f') fail("a digit that is none");
-    return (uint8_t)(c - 'a' + 10);
-}
-
-static size_t bytes(char **rest, uint8_t *to, size_t most) {
-    const char *hex = word(rest);
-    size_t n = 0;
-    if (strcmp(hex, "-") == 0) return 0;
-    for (; hex[0]; hex += 2) {
-        if (n == most) fail("too many bytes");
-        if (!hex[1]) fail("half a byte");
-        to[n++] = (uint8_t)(digit(hex[0]) << 4 | digit(hex[1]));
-    }
-    return n;
-}
-
-/* the line that has to come next; gives its words after the first */
-static char *follows(const char *name) {
-    char *rest = line;
-    if (!next_line() || strcmp(word(&rest), name) || !rest) {
-        printf("%s should follow, and words after it\n", name);
-        fail("another line");
-    }
-    return rest;
-}
-
-static void compare(const char *what, uint64_t got, uint64_t want) {
-    if (got == want) return;
-    printf("%s: answered %" PRIu64 ", not %" PRIu64 "\n", what, got, want);
-    fail("another number");
-}
 
 /* an index that was answered, by the words of a line or by the one that was lent */
 static void compare_index(const struct nk_index *got) {
@@ -109,7 +64,7 @@ static void sequence(void) {
 
 static void room(char *rest) {
     uint8_t fill = (uint8_t)number_up_to(&rest, UINT8_MAX);
-    for (size_t i = 0; i < ROOM; i++) lent.room[i] = (uint8_t)(fill + i + i / 256);
+    fill_room(lent.room, ROOM, fill);
     length = bytes(&rest, lent.room, ROOM);
 }
 

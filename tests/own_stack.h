@@ -8,7 +8,7 @@
 #include <string.h>
 #include <ucontext.h>
 
-enum { OWN_STACK = 65536 };
+enum { OWN_STACK = 1 << 18 }; /* a call that copied records of 22 KB onto it would be seen to, and would not run over its end */
 
 static _Alignas(64) uint8_t own_stack[OWN_STACK];
 

@@ -30,9 +30,10 @@ static void empty(void) { answer = do_nothing(); }
 static void make(void) { answer = nk_make(&keeper, bytes, 48); }
 static void make_refused(void) { answer = nk_make(&keeper, bytes, 47); }
 static void event(void) { answer = nk_event(&keeper, 3, 9000, 1, 2); }
+static void event_of_last_device(void) { answer = nk_event(&keeper, 1023, 9000, 1, 2); }
 static void event_of_new_device(void) { keeper.came[3] = 0; answer = nk_event(&keeper, 3, 9000, 1, 2); }
 static void event_seeds(void) { keeper.ledger.seeding.mark = 0; answer = nk_event(&keeper, 0, 9000, 1, 2); }
-static void event_refused(void) { answer = nk_event(&keeper, 16, 9000, 1, 2); }
+static void event_refused(void) { answer = nk_event(&keeper, 1024, 9000, 1, 2); }
 static void interrupt(void) { answer = nk_interrupt(&keeper, 100, 1, 2, 3); }
 static void interrupt_spills(void) { answer = nk_interrupt(&keeper, 9000, 1, 2, 3); }
 static void interrupt_seeds(void) { keeper.ledger.seeding.mark = 0; answer = nk_interrupt(&keeper, 9000, 1, 2, 3); }
@@ -51,7 +52,7 @@ static void blocking_refused(void) {
     keeper.ledger.blocking.count = keeper.ledger.input.count = 0;
     answer = nk_blocking_read(&keeper, bytes, 128);
 }
-static void damaged(void) { keeper.seconds[15] = INT64_MAX; answer = nk_blocking_read(&keeper, bytes, 128); }
+static void damaged(void) { keeper.seconds[1023] = INT64_MAX; answer = nk_blocking_read(&keeper, bytes, 128); }
 
 struct situation {
     const char *name; /* null: one more situation of the call above */
@@ -65,6 +66,7 @@ static const struct situation situations[] = {
     {"nk_make", 160, make, NK_DONE, 0},
     {NULL, 0, make_refused, NK_START_NOT_48, 0},
     {"nk_event", 464, event, NK_DONE, 0},
+    {NULL, 0, event_of_last_device, NK_DONE, 0},
     {NULL, 0, event_of_new_device, NK_DONE, 0},
     {NULL, 0, event_seeds, NK_DONE, 1},
     {NULL, 0, event_refused, NK_NO_SUCH_DEVICE, 0},

@@ -61,6 +61,7 @@ static void turn(void) {
     step();
     terminal_event(&terminal, TERMINAL_KEYBOARD, script * 13 & 0x7f);
     terminal_event(&terminal, TERMINAL_RADIO, script);
+    terminal_sensor(&terminal, script * 37 % TERMINAL_SENSORS, script);
     terminal_interrupt(&terminal, interrupts_sent++, 0x08000000u + 4 * script);
     terminal_turn(&terminal);
     ask_for_keys();
@@ -198,14 +199,46 @@ static void everyday_refusals(void) {
     check(terminal_bytes(&terminal, large, sizeof large) == TERMINAL_DONE, "a long room is not filled");
     check(!is_clear(large + sizeof large - 32, 32), "the end of a long room is not filled");
     for (size_t i = 0; i + 32 <= sizeof large; i += 32) check(is_new(KEY, large + i, 32), "bytes that were there before");
-    struct nk_keeper before = terminal.keeper;
-    for (uint32_t device = 16; device < 40; device++)
+    static struct nk_keeper before;
+    before = terminal.keeper;
+    for (uint32_t device = NK_DEVICES; device < NK_DEVICES + 24; device++)
         check(terminal_event(&terminal, device, 1) == TERMINAL_WRONG, "device %u is taken", device);
     check(memcmp(&before, &terminal.keeper, sizeof before) == 0, "a device that is not there changes the record");
     check(reports[REPORT_WRONG_CALL] == 24, "wrong calls are not reported");
     check(terminal_event(&terminal, TERMINAL_KEYBOARD, 0x999) == TERMINAL_DONE, "a key is not taken");
     check(terminal_event(&terminal, TERMINAL_KEYBOARD, 0x999) == TERMINAL_DONE, "a key that is held down is trouble");
     check(makes == made, "a refusal leads to a new keeper");
+    end();
+}
+
+/* A sensor of the rig has a device of its own, up to the last that the keeper has; a number that is too high is refused, also where it
+   would come round to another device. */
+static void sensors(void) {
+    static const uint32_t there[] = {0, 1, 155, 156, 412, 922, 923};
+    static const uint32_t not_there[] = {924, 925, 1023, 1024, 0xffff, 0x10000, 0x7fffffff, UINT32_MAX - 100, UINT32_MAX - 99,
+        UINT32_MAX - 98, UINT32_MAX};
+    static struct nk_keeper before;
+    begin("sensors of the rig, up to the last, and none past it");
+    check((int)TERMINAL_FIRST_SENSOR + (int)TERMINAL_SENSORS == (int)NK_DEVICES, "the sensors are not the keeper's last devices");
+    good_life("sensors");
+    power_on();
+    check(terminal_start(&terminal), "no start");
+    for (unsigned i = 0; i < sizeof there / sizeof *there; i++) {
+        uint32_t device = 100 + there[i];
+        before = terminal.keeper;
+        ticks += 777;
+        check(terminal_sensor(&terminal, there[i], 5) == TERMINAL_DONE, "sensor %u is refused", there[i]);
+        check(terminal.keeper.came[device] == 1 && terminal.keeper.clocks[device] == ticks, "sensor %u: not device %u", there[i], device);
+        before.came[device] = 1;
+        check(memcmp(before.came, terminal.keeper.came, sizeof before.came) == 0, "sensor %u counts for another device", there[i]);
+    }
+    before = terminal.keeper;
+    unsigned told = reports[REPORT_WRONG_CALL], made = makes;
+    for (unsigned i = 0; i < sizeof not_there / sizeof *not_there; i++) {
+        check(terminal_sensor(&terminal, not_there[i], 5) == TERMINAL_WRONG, "sensor %u is taken", not_there[i]);
+        check(reports[REPORT_WRONG_CALL] == told + i + 1, "sensor %u is not reported", not_there[i]);
+    }
+    check(memcmp(&before, &terminal.keeper, sizeof before) == 0 && makes == made, "a sensor that is not there changes something");
     end();
 }
 
@@ -307,6 +340,7 @@ static void hits_at_any_moment(void) {
 /* Most of these hits leave the record in range, where the keeper cannot see them. */
 static void hits_between_turns(void) {
     struct nk_keeper *k = &terminal.keeper;
+    uint32_t new_device;
     begin("the record is hit between two turns, in any of its bits");
     for (unsigned i = 0; i < 720; i++) {
         here = devices + i % DEVICES;
@@ -321,7 +355,10 @@ static void hits_between_turns(void) {
         case 0: k->ledger.seeding.mark ^= 1; break; /* a mark that turns into a yes */
         case 3: k->ledger.input.count ^= 0x4000; break; /* credit that comes from nowhere */
         case 6: k->ledger.blocking.count ^= 0x1000; break;
-        case 9: k->came[TERMINAL_RADIO] ^= 3; break; /* a new device that is none any more */
+        case 9: /* a new device that is none any more */
+            new_device = i / 12 % 2 ? TERMINAL_RADIO : TERMINAL_FIRST_SENSOR + below(TERMINAL_SENSORS);
+            k->came[new_device] ^= 3;
+            break;
         default: *byte ^= (uint8_t)(1u << below(8));
         }
         may_make = true;
@@ -727,6 +764,7 @@ int main(void) {
     chance_at = 48;
     quiet_lives();
     everyday_refusals();
+    sensors();
     every_answer();
     hits_at_any_moment();
     hits_between_turns();

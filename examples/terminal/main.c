@@ -65,6 +65,10 @@ static void need(bool holds, const char *what) {
     exit(1);
 }
 
+/* The terminal stands at a rig with so many sensors, one of which tells a value now and then. Most of them are new to the keeper, which
+ * mixes what they tell and gives them no credit for it. */
+enum { RIG_SENSORS = 600 };
+
 /* Some turns of the main loop, with the noise of an ordinary day. The interrupt comes from the loop, because this board has none. */
 static void live(unsigned turns) {
     for (unsigned i = 0; i < turns; i++) {
@@ -72,6 +76,7 @@ static void live(unsigned turns) {
         if (i % 3 == 0) terminal_event(&terminal, TERMINAL_KEYBOARD, 'a' + (uint32_t)(cycles >> 62));
         if (i % 3 == 1) terminal_event(&terminal, TERMINAL_RADIO, (uint32_t)(cycles >> 40) & 0xff);
         if (i % 3 == 2) terminal_interrupt(&terminal, 5, 0x08000000u + (cycles >> 48));
+        terminal_sensor(&terminal, (uint32_t)(cycles >> 32) % RIG_SENSORS, (uint32_t)(cycles >> 44) & 0xfff);
         terminal_turn(&terminal);
     }
 }
@@ -143,10 +148,11 @@ int main(void) {
     terminal.keeper.ledger.spill.tally = 1000;
     need(session_key() == 1, "no key at the first turn after it");
 
-    say("ten thousand bytes go in parts; device 16 is refused, and nothing is restarted for it");
+    say("ten thousand bytes go in parts; the last sensor is taken, and one that there is not is refused, with nothing restarted for it");
     need(terminal_bytes(&terminal, large, sizeof large) == TERMINAL_DONE, "no large room");
     forget(large, sizeof large);
-    need(terminal_event(&terminal, 16, 1) == TERMINAL_WRONG, "device 16 is taken");
+    need(terminal_sensor(&terminal, TERMINAL_SENSORS - 1, 1) == TERMINAL_DONE, "the last sensor is refused");
+    need(terminal_sensor(&terminal, TERMINAL_SENSORS, 1) == TERMINAL_WRONG, "a sensor that there is not is taken");
     session_key();
 
     say("both copies of the start number are lost: no start until it is commissioned again");

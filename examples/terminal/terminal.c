@@ -15,14 +15,20 @@ enum {
 
 /* One keeper: whether it can be called, and what follows from what it answers. */
 
-/* Any change of one word of the record changes this. */
+/* Any change of one word of the record changes this: it moves the seal by an odd number of times as much. The order of the words counts
+ * too. The record has 22 KB, most of it timers, and is sealed twice for each call; so a word costs two additions and no more, and words at
+ * even and at odd places do not wait for one another. */
 static uint64_t seal_of(const struct nk_keeper *k) {
-    uint64_t seal = 1, word;
-    for (size_t i = 0; i < sizeof *k; i += sizeof word) {
-        memcpy(&word, (const uint8_t *)k + i, sizeof word);
-        seal = (seal ^ word) * 0x100000001b3u;
+    uint64_t even = 1, evens = 0, odd = 0, odds = 0, words[2];
+    _Static_assert(sizeof *k % sizeof words == 0, "no word of the record is left over");
+    for (size_t i = 0; i < sizeof *k; i += sizeof words) {
+        memcpy(words, (const uint8_t *)k + i, sizeof words);
+        even += words[0];
+        evens += even;
+        odd += words[1];
+        odds += odd;
     }
-    return seal;
+    return (even + 2 * evens) + 3 * (odd + 2 * odds);
 }
 
 /* A damaged record is wiped at once, with all that came from it; the next turn makes a new keeper. */
@@ -115,6 +121,13 @@ enum terminal_answer terminal_event(struct terminal *t, uint32_t device, uint32_
     enum terminal_answer answer = judged(t, nk_event(&t->keeper, device, board_ticks(), board_stamp(), value));
     forget_stack();
     return answer;
+}
+
+/* A number that is too high is handed on as a device that there is not, for the keeper to refuse. Added to as it is it could wrap, and the
+ * sensor would be taken for the keyboard. */
+enum terminal_answer terminal_sensor(struct terminal *t, uint32_t sensor, uint32_t value) {
+    uint32_t device = sensor < TERMINAL_SENSORS ? TERMINAL_FIRST_SENSOR + sensor : (uint32_t)NK_DEVICES;
+    return terminal_event(t, device, value);
 }
 
 void terminal_interrupt(struct terminal *t, uint32_t number, uint64_t address) {

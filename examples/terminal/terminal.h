@@ -12,8 +12,15 @@
 
 enum { TERMINAL_KEY_LENGTH = 32 };
 
-/* Devices, as nk_event counts them. The keeper leaves out repeated values on device 0 only, so that is the one with keys to hold down. */
-enum { TERMINAL_KEYBOARD = 0, TERMINAL_RADIO = 1, TERMINAL_NOISE = 2 };
+/* Devices, as nk_event counts them. The keeper leaves out repeated values on device 0 only, so that is the one with keys to hold down.
+ * A rig's sensors have the devices from 100 up to the last one that there is; between them and the terminal's own there is room. */
+enum {
+    TERMINAL_KEYBOARD = 0,
+    TERMINAL_RADIO = 1,
+    TERMINAL_NOISE = 2,
+    TERMINAL_FIRST_SENSOR = 100,
+    TERMINAL_SENSORS = NK_DEVICES - TERMINAL_FIRST_SENSOR
+};
 
 enum terminal_answer {
     TERMINAL_DONE,
@@ -28,6 +35,7 @@ enum terminal_state {
     TERMINAL_DAMAGED /* the record was found damaged and wiped; the next turn makes a new keeper */
 };
 
+/* The record has 22 KB, so a terminal is no variable for a controller's stack: main.c has a static one. */
 struct terminal {
     struct nk_keeper keeper;
     uint64_t seal; /* over the keeper, as the last call left it */
@@ -59,6 +67,9 @@ void terminal_stop(struct terminal *t);
 
 /* Something happened on a device. */
 enum terminal_answer terminal_event(struct terminal *t, uint32_t device, uint32_t value);
+
+/* A sensor of the rig told a value. Sensors are counted from 0; there are TERMINAL_SENSORS at most. */
+enum terminal_answer terminal_sensor(struct terminal *t, uint32_t sensor, uint32_t value);
 
 /* For interrupt handlers, and the only function for them. A handler's stack must not be the one that it broke into, and it must be
  * compiled without vector registers (-mgeneral-regs-only), this core with it: nk.h says why, under MACHINE. */

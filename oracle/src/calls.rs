@@ -4,11 +4,13 @@
 
 use std::io::{self, Write};
 
-use crate::journal::{hex, Record};
-use crate::keeper::{Answer, Keeper, BAD_START, DEVICES, LONGEST, START};
-use crate::maker::anything::{any_record, first_clock, start, Pace};
+use crate::journal::{hex_word, Record, Version};
+use crate::keeper::{Answer, Keeper, Timer, BAD_START, DEVICES, LONGEST, START};
+use crate::maker::anything::{any_device, any_record, first_clock, start, Pace};
+use crate::maker::sized::event_of;
 use crate::pools::{BLOCKING, INPUT};
 use crate::random::Random;
+use crate::situations::{BORDER_DEVICES, BORDER_REFUSALS};
 use crate::transcript::perform_into;
 
 pub const FORMAT: &str = "\
@@ -32,18 +34,23 @@ pub const FORMAT: &str = "\
 # After each call come three lines:
 # answer NUMBER DELIVERED BLOCKS COMPRESSIONS ADDED
 # room BYTES                          the room after the call; - where there is none
-# keeper FIELDS                       the whole record, or the word none before it is made
+# keeper FIELDS                       the whole record, or one of two words: none
+#                                     before it is made, same where all of it is as it
+#                                     was before the call
 #
 # ADDED are the units that crediting added to either pool, before any debit.
 #
-# FIELDS, in this order, 11 + 64 + 180 words:
+# FIELDS, in this order, 11 + 180 words:
 #   input count, blocking count, input position, blocking position,
 #   input rotation, blocking rotation, device 0's last value, tally,
 #   last spill, seeded (0 or 1), seeding clock,
-#   16 clocks, 16 d1, 16 d2, 16 came (devices 0 to 15 each; came is how many
-#   kept events of the device came so far, up to 3),
 #   128 WORDs of the input pool, 32 of the blocking pool, 4 of the fast pool,
 #   16 of the generator
+# Then come five words for each device whose timer is another than before the call,
+# and the timers of all the other devices, 0 to 1023, are as they were:
+#   DEVICE CLOCK D1 D2 CAME           CAME is how many kept events of the device came
+#                                     so far, up to 3
+# A making that is done sets all timers to 0, and tells none of them.
 #
 # Between calls the record may be changed from outside; nothing is answered:
 # put FIELD INDEX VALUE               VALUE decimal for all fields
@@ -53,15 +60,6 @@ pub const FORMAT: &str = "\
 # generator-word. INDEX is the device or word, and 0 where there is only one.
 # A came is a byte: its VALUE is 0 to 255, and above 3 it is out of range.
 ";
-
-/// The hex of bytes, never an empty word.
-fn word_of(bytes: &[u8]) -> String {
-    if bytes.is_empty() {
-        "-".to_owned()
-    } else {
-        hex(bytes)
-    }
-}
 
 fn call_line(record: &Record, room: &[u8]) -> String {
     match record {
@@ -77,12 +75,12 @@ fn call_line(record: &Record, room: &[u8]) -> String {
             stamp,
             address,
         } => format!("interrupt {now} {number} {stamp} {address}"),
-        Record::Write { now, bytes } => format!("write {now} {}", word_of(bytes)),
+        Record::Write { now, bytes } => format!("write {now} {}", hex_word(bytes)),
         Record::Seed { now, credit, bytes } => {
-            format!("seed {now} {credit} {}", word_of(bytes))
+            format!("seed {now} {credit} {}", hex_word(bytes))
         }
-        Record::Generator { now, .. } => format!("generator {now} {}", word_of(room)),
-        Record::Blocking { now, .. } => format!("blocking {now} {}", word_of(room)),
+        Record::Generator { now, .. } => format!("generator {now} {}", hex_word(room)),
+        Record::Blocking { now, .. } => format!("blocking {now} {}", hex_word(room)),
     }
 }
 
@@ -98,7 +96,26 @@ fn answer_line(answer: &Answer) -> String {
     format!("answer {number} {delivered} {blocks} {compressions} {added}")
 }
 
-fn keeper_line(k: &Keeper) -> String {
+/// The record after a call, by what it was before.
+fn keeper_line(before: &Keeper, after: &Keeper) -> String {
+    if after == before {
+        return "keeper same".to_owned();
+    }
+    let mut line = whole_but_timers(after);
+    let timers = before.timers.iter().zip(&after.timers).enumerate();
+    for (device, (_, timer)) in timers.filter(|(_, (before, after))| before != after) {
+        let Timer {
+            clock,
+            d1,
+            d2,
+            came,
+        } = timer;
+        line += &format!(" {device} {clock} {d1} {d2} {came}");
+    }
+    line
+}
+
+fn whole_but_timers(k: &Keeper) -> String {
     let mut line = format!(
         "keeper {} {} {} {} {} {} {} {} {} {} {}",
         k.input.count,
@@ -113,13 +130,6 @@ fn keeper_line(k: &Keeper) -> String {
         u8::from(k.seeded),
         k.seeding_clock
     );
-    let clocks = k.timers.iter().map(|t| i64::from(t.clock));
-    let firsts = k.timers.iter().map(|t| t.d1);
-    let seconds = k.timers.iter().map(|t| t.d2);
-    let came = k.timers.iter().map(|t| i64::from(t.came));
-    for number in clocks.chain(firsts).chain(seconds).chain(came) {
-        line += &format!(" {number}");
-    }
     let pools = k.input.words.iter().chain(&k.blocking.words);
     for word in pools.chain(&k.fast).chain(&k.generator) {
         line += &format!(" {word:08x}");
@@ -185,8 +195,9 @@ fn put(k: &mut Keeper, Place { field, index }: Place, value: i64) {
     }
 }
 
-/// Every way to put a record out of range, each with the value just outside
-/// and one further off.
+/// The ways to put a record out of range that are tried in any order: each field
+/// that is not a timer's with the value just outside and one further off, and the
+/// timers of devices at borders further off. Just outside are all timers in turn.
 fn ways_out() -> Vec<(Place, i64)> {
     let mut ways = Vec::new();
     let mut way = |field, index, values: &[i64]| {
@@ -201,24 +212,38 @@ fn ways_out() -> Vec<(Place, i64)> {
     way("input-rotation", 0, &[32, 255]);
     way("blocking-rotation", 0, &[32, 255]);
     way("tally", 0, &[64, 255]);
-    for device in 0..DEVICES {
-        way("d1", device, &[1 << 31, -(1 << 31) - 1]);
-        way("d2", device, &[1 << 32, -(1 << 32)]);
-        way("came", device, &[4, 5, 128, 255]);
-    }
-    way("d1", 7, &[i64::MAX, i64::MIN]);
-    way("d2", 7, &[i64::MAX, i64::MIN]);
     for index in 0..4 {
         way("generator-word", index, &[0, 0x7962_2d33]);
     }
+    for device in BORDER_DEVICES {
+        let device = device as usize;
+        way("d1", device, &[i64::MAX, i64::MIN]);
+        way("d2", device, &[i64::MAX, i64::MIN]);
+        way("came", device, &[5, 128, 255]);
+    }
     ways
+}
+
+/// A device's timer just outside of each of its ranges.
+fn just_outside(device: usize) -> [(Place, i64); 5] {
+    [
+        ("d1", 1 << 31),
+        ("d1", -(1 << 31) - 1),
+        ("d2", 1 << 32),
+        ("d2", -(1 << 32)),
+        ("came", 4),
+    ]
+    .map(|(field, value)| {
+        let index = device;
+        (Place { field, index }, value)
+    })
 }
 
 /// A value at an edge of what a field may hold.
 fn edge(random: &mut Random) -> (Place, i64) {
     let any = i64::from(random.u32());
     let clock = random.pick(&[0, any, 1 << 31, u32::MAX.into()]);
-    let device = random.below(DEVICES as u64) as usize;
+    let device = any_device(random, Version::Two) as usize;
     let (field, index, value) = match random.below(20) {
         0 | 1 => {
             let counts = [
@@ -284,7 +309,12 @@ impl Trace<'_> {
     /// Any call at all.
     fn any_call(&mut self, random: &mut Random, now: u32) -> io::Result<()> {
         let large = random.one_in(12);
-        let mut record = any_record(random, &self.keeper, now, large);
+        let mut record = any_record(random, Version::Two, &self.keeper, now, large);
+        if let Record::Device { device, .. } = &mut record {
+            if random.one_in(8) {
+                *device = random.pick(&PAST_ANY_FIELD);
+            }
+        }
         if random.one_in(40) {
             // Too long by one, with a credit that is fine or too much.
             let bytes = random.bytes(LONGEST + 1).into();
@@ -305,16 +335,17 @@ impl Trace<'_> {
             _ => Vec::new(),
         };
         writeln!(self.out, "{}", call_line(record, &room))?;
+        let before = self.keeper.clone();
         let answer = perform_into(&mut self.keeper, record, &mut room);
         writeln!(self.out, "{}", answer_line(&answer))?;
-        writeln!(self.out, "room {}", word_of(&room))?;
-        writeln!(self.out, "{}", keeper_line(&self.keeper))
+        writeln!(self.out, "room {}", hex_word(&room))?;
+        writeln!(self.out, "{}", keeper_line(&before, &self.keeper))
     }
 
-    fn put_came(&mut self, device: u8, came: i64) -> io::Result<()> {
+    fn put_came(&mut self, device: u32, came: i64) -> io::Result<()> {
         let place = Place {
             field: "came",
-            index: usize::from(device),
+            index: device as usize,
         };
         self.put(place, came)
     }
@@ -323,10 +354,11 @@ impl Trace<'_> {
         self.put(Place { field, index: 0 }, count)
     }
 
-    /// Says of each device how many of its events came, of most of them enough
+    /// Says of some devices how many of their events came, of most of them enough
     /// for the next to earn: few devices come four times in one sequence.
     fn devices_that_came(&mut self, random: &mut Random) -> io::Result<()> {
-        for device in 0..DEVICES as u8 {
+        let any = [(); 4].map(|()| any_device(random, Version::Two));
+        for device in BORDER_DEVICES.into_iter().chain(any) {
             let came = random.pick(&[0, 1, 2, 3, 3, 3, 3, 3]);
             self.put_came(device, came)?;
         }
@@ -335,7 +367,7 @@ impl Trace<'_> {
 
     /// An event of a device right after it was said how many came before.
     fn event_after(&mut self, random: &mut Random, now: u32) -> io::Result<()> {
-        let device = random.below(DEVICES as u64) as u8;
+        let device = any_device(random, Version::Two);
         let came = random.pick(&[0, 1, 2, 2, 3]);
         self.put_came(device, came)?;
         let record = event(random, device, now);
@@ -383,13 +415,50 @@ impl Trace<'_> {
         }
         Ok(())
     }
+
+    /// Calls on a record that one timer puts out of range.
+    fn out_of_range(&mut self, random: &mut Random, device: usize) -> io::Result<()> {
+        for (at, (place, value)) in just_outside(device).into_iter().enumerate() {
+            let kept = get(&self.keeper, place);
+            self.put(place, value)?;
+            let now = random.u32();
+            let length = random.below(3) as u16;
+            let record = match (at + device) % 7 {
+                0 => event_of(random, device as u32),
+                1 => event_of(random, 0),
+                2 => interrupt(random, now),
+                3 => Record::Write {
+                    now,
+                    bytes: random.bytes(2).into(),
+                },
+                4 => seed(random, 1, 1),
+                5 => Record::Generator { now, length },
+                _ => Record::Blocking { now, length },
+            };
+            self.call(random, &record)?;
+            self.put(place, kept)?;
+        }
+        Ok(())
+    }
+
+    /// Puts a timer to the edges of its ranges, and says that some events came.
+    fn put_to_the_edges(&mut self, random: &mut Random, device: usize) -> io::Result<()> {
+        let d1 = random.pick(&[-(1 << 31), (1 << 31) - 1]);
+        let d2 = random.pick(&[1 - (1 << 32), (1 << 32) - 1]);
+        let came = random.pick(&[1, 2, 3, 3, 3]);
+        for (field, value) in [("d1", d1), ("d2", d2), ("came", came)] {
+            let index = device;
+            self.put(Place { field, index }, value)?;
+        }
+        Ok(())
+    }
 }
 
 /// The devices of the events that an unseeded keeper with enough meets: two of
 /// which three events came, and one of which fewer did.
-const WORTH_NOTHING: u8 = 3;
-const WORTH_ONE_BIT: u8 = 4;
-const NEW: u8 = 5;
+const WORTH_NOTHING: u32 = 3;
+const WORTH_ONE_BIT: u32 = 260;
+const NEW: u32 = 1_023;
 
 /// Calls that credit nothing to a fresh keeper, though most of them mix.
 fn crediting_nothing(random: &mut Random) -> [Record<'static>; 8] {
@@ -438,7 +507,7 @@ fn seed(random: &mut Random, credit: u32, length: usize) -> Record<'static> {
     }
 }
 
-fn event(random: &mut Random, device: u8, now: u32) -> Record<'static> {
+fn event(random: &mut Random, device: u32, now: u32) -> Record<'static> {
     Record::Device {
         now,
         device,
@@ -460,9 +529,71 @@ fn interrupt(random: &mut Random, now: u32) -> Record<'static> {
 /// count that would seed it, and another with pools that are nearly full.
 const ONE_OF: u64 = 8;
 
-/// Writes `count` sequences.
+/// Numbers of devices that no field of a journal holds, such as are one in it if
+/// they are cut to 16, 10 or 8 bits.
+const PAST_ANY_FIELD: [u32; 8] = [
+    65_536,
+    65_536 + 3,
+    65_536 + 1_023,
+    1 << 24,
+    1 << 31,
+    (1 << 31) + 256,
+    u32::MAX - 1_023,
+    u32::MAX,
+];
+
+/// Writes what every trace goes through, and then `count` sequences of chance.
 pub fn calls(seed: u64, count: u64, out: &mut dyn Write) -> io::Result<()> {
     write!(out, "{FORMAT}")?;
+    every_device(&mut Random::new(!seed, 0), out)?;
+    chance(seed, count, out)
+}
+
+/// Makes a keeper from any start.
+fn make<'a>(random: &mut Random, out: &'a mut dyn Write) -> io::Result<Trace<'a>> {
+    let start: [u8; START] = start(random);
+    let keeper = Keeper::make(&start).expect("the start has its length");
+    writeln!(out, "make {}", hex_word(&start))?;
+    writeln!(
+        out,
+        "answer 0 0 0 0 0\nroom -\n{}",
+        whole_but_timers(&keeper)
+    )?;
+    Ok(Trace { out, keeper })
+}
+
+/// A sequence over all devices: the timer of each out of range, all timers at the
+/// edges of their ranges, an event of each device and of numbers that none has. At
+/// last the record, in which every timer was used, is made anew.
+fn every_device(random: &mut Random, out: &mut dyn Write) -> io::Result<()> {
+    writeln!(out, "sequence 0")?;
+    let mut trace = make(random, out)?;
+    trace.put_count("input-count", 4_096)?;
+    trace.put_count("seeded", 1)?;
+    for device in 0..DEVICES {
+        trace.out_of_range(random, device)?;
+    }
+    for device in 0..DEVICES {
+        trace.put_to_the_edges(random, device)?;
+    }
+    for device in 0..DEVICES as u32 {
+        let record = event_of(random, device);
+        trace.call(random, &record)?;
+    }
+    for device in BORDER_REFUSALS.into_iter().chain(PAST_ANY_FIELD) {
+        let record = event_of(random, device);
+        trace.call(random, &record)?;
+        // A record out of range counts before a device that is none.
+        trace.put_count("tally", 64)?;
+        trace.call(random, &record)?;
+        trace.put_count("tally", 0)?;
+    }
+    make(random, trace.out)?;
+    Ok(())
+}
+
+/// Sequences of any calls.
+fn chance(seed: u64, count: u64, out: &mut dyn Write) -> io::Result<()> {
     // Taken in turn over the whole trace, so that each way comes up.
     let mut ways = ways_out().into_iter().cycle();
     for number in 1..=count {
@@ -471,15 +602,10 @@ pub fn calls(seed: u64, count: u64, out: &mut dyn Write) -> io::Result<()> {
         if random.one_in(3) {
             let length = random.pick(&[0, 1, 47, 49, 96]);
             let bytes = random.bytes(length);
-            writeln!(out, "make {}", word_of(&bytes))?;
+            writeln!(out, "make {}", hex_word(&bytes))?;
             writeln!(out, "answer {BAD_START} 0 0 0 0\nroom -\nkeeper none")?;
         }
-        let start: [u8; START] = start(random);
-        let keeper = Keeper::make(&start).expect("the start has its length");
-        writeln!(out, "make {}", hex(&start))?;
-        writeln!(out, "answer 0 0 0 0 0\nroom -\n{}", keeper_line(&keeper))?;
-
-        let mut trace = Trace { out, keeper };
+        let mut trace = make(random, out)?;
         match number % ONE_OF {
             1 => trace.unseeded_with_enough(random)?,
             5 => trace.nearly_full(random)?,
@@ -532,6 +658,13 @@ mod tests {
         String::from_utf8(out).unwrap()
     }
 
+    /// Without what every trace goes through.
+    fn chance_alone(seed: u64, count: u64) -> String {
+        let mut out = Vec::new();
+        chance(seed, count, &mut out).unwrap();
+        String::from_utf8(out).unwrap()
+    }
+
     fn bytes(word: &str) -> Vec<u8> {
         if word == "-" {
             return Vec::new();
@@ -568,12 +701,41 @@ mod tests {
         "generator-word",
     ];
 
-    /// Follows a trace by its text alone, as another program would.
+    /// The record that a trace tells of, by its text alone.
+    fn tell(keeper: &mut Keeper, line: &str) {
+        let words: Vec<&str> = line.split(' ').collect();
+        if words[1] == "same" {
+            return;
+        }
+        let number_at = |at: usize| number::<i64>(words[at]);
+        for (at, field) in FIELDS.into_iter().take(11).enumerate() {
+            put(keeper, Place { field, index: 0 }, number_at(1 + at));
+        }
+        let secret = ["input-word", "blocking-word", "fast-word", "generator-word"];
+        let mut at = 12;
+        for (field, count) in secret.into_iter().zip([128, 32, 4, 16]) {
+            for index in 0..count {
+                let word = i64::from_str_radix(words[at], 16).unwrap();
+                put(keeper, Place { field, index }, word);
+                at += 1;
+            }
+        }
+        for timer in words[at..].chunks_exact(5) {
+            let index = number(timer[0]);
+            for (field, value) in ["clock", "d1", "d2", "came"].into_iter().zip(&timer[1..]) {
+                put(keeper, Place { field, index }, number(value));
+            }
+        }
+    }
+
+    /// Follows a trace by its text alone, as another program would: one keeper is
+    /// called, and another is kept as the trace tells it.
     #[test]
     fn a_trace_says_all_that_is_needed_to_follow_it() {
         let text = trace(8, 120);
         let mut lines = text.lines().filter(|l| !l.starts_with('#'));
-        let mut keeper: Option<Keeper> = None;
+        let mut lent: Option<Keeper> = None;
+        let mut told: Option<Keeper> = None;
         let mut seen = BTreeSet::new();
         let mut refused = 0;
         while let Some(line) = lines.next() {
@@ -581,31 +743,29 @@ mod tests {
             let mut room = Vec::new();
             let answer = match w[0] {
                 "sequence" => {
-                    keeper = None;
+                    (lent, told) = (None, None);
                     continue;
                 }
                 "put" => {
                     let field = FIELDS.into_iter().find(|f| *f == w[1]).unwrap();
                     let index = number(w[2]);
-                    put(
-                        keeper.as_mut().unwrap(),
-                        Place { field, index },
-                        number(w[3]),
-                    );
+                    for keeper in [&mut lent, &mut told] {
+                        let keeper = keeper.as_mut().unwrap();
+                        put(keeper, Place { field, index }, number(w[3]));
+                    }
                     continue;
                 }
                 "make" => match Keeper::make(&bytes(w[1])) {
                     Ok(made) => {
-                        keeper = Some(made);
+                        lent = Some(made);
+                        // All that is not a timer comes with the line.
+                        told = Some(Keeper::make(&[0; START]).unwrap());
                         Answer::default()
                     }
-                    Err(number) => Answer {
-                        number,
-                        ..Answer::default()
-                    },
+                    Err(number) => Answer::refusal(number),
                 },
                 kind => {
-                    let k = keeper.as_mut().unwrap();
+                    let k = lent.as_mut().unwrap();
                     let now = number(w[1]);
                     match kind {
                         "device" => k.device_event(number(w[2]), now, number(w[3]), number(w[4])),
@@ -627,19 +787,50 @@ mod tests {
             seen.insert(answer.number);
             refused += u32::from(answer.number == OUT_OF_RANGE);
             assert_eq!(lines.next().unwrap(), answer_line(&answer));
-            assert_eq!(lines.next().unwrap(), format!("room {}", word_of(&room)));
-            let expected = keeper
-                .as_ref()
-                .map_or("keeper none".to_owned(), keeper_line);
-            assert_eq!(lines.next().unwrap(), expected);
+            assert_eq!(lines.next().unwrap(), format!("room {}", hex_word(&room)));
+            let line = lines.next().unwrap();
+            match &mut told {
+                None => assert_eq!(line, "keeper none"),
+                Some(told) => tell(told, line),
+            }
+            assert!(lent == told, "{line}");
         }
         assert_eq!(seen, BTreeSet::from([0, 1, 2, 3, 4, 5, 6, 7, 17]));
-        assert!(refused as usize >= ways_out().len());
+        let ways = ways_out().len() + 5 * DEVICES;
+        assert!(refused as usize >= ways, "{refused} of {ways}");
+    }
+
+    /// The timers that are put out of range, and the devices whose events are done
+    /// and refused, in every trace.
+    #[test]
+    fn every_trace_goes_through_all_devices() {
+        let text = trace(3, 0);
+        let lines: Vec<Vec<&str>> = text.lines().map(|l| l.split(' ').collect()).collect();
+        let out: BTreeSet<(&str, usize)> = lines
+            .windows(3)
+            .filter(|w| w[0][0] == "put" && w[2][..2] == ["answer", "17"])
+            .map(|w| (w[0][1], number(w[0][2])))
+            .collect();
+        let events = |answer: &str| -> BTreeSet<u32> {
+            let answered = lines.windows(2);
+            let answered = answered.filter(|w| w[0][0] == "device" && w[1][1] == answer);
+            answered.map(|w| number(w[0][2])).collect()
+        };
+        for device in 0..DEVICES {
+            for field in ["d1", "d2", "came"] {
+                assert!(out.contains(&(field, device)), "{field} {device}");
+            }
+        }
+        assert_eq!(events("0"), (1..DEVICES as u32).chain([0]).collect());
+        let none = BORDER_REFUSALS.into_iter().chain(PAST_ANY_FIELD);
+        assert_eq!(events("4"), none.collect());
+        assert!(text.len() < 4_000_000, "{}", text.len());
     }
 
     #[test]
     fn every_way_out_is_out_of_range_and_no_edge_is() {
-        for (place, value) in ways_out() {
+        let timers = (0..DEVICES).flat_map(just_outside);
+        for (place, value) in ways_out().into_iter().chain(timers) {
             let mut keeper = Keeper::make(&[0; START]).unwrap();
             put(&mut keeper, place, value);
             assert!(!keeper.in_range());
@@ -659,30 +850,15 @@ mod tests {
     struct Done<'a> {
         call: Vec<&'a str>,
         added: i64,
-        /// The words of the keeper's lines before and after it, the fields that
-        /// were put in between among the former.
-        before: Vec<String>,
-        after: Vec<&'a str>,
-    }
-
-    /// Where in a keeper's line a field is that these tests look at.
-    fn word_at(field: &str, index: usize) -> Option<usize> {
-        let first = match field {
-            "input-count" => 1,
-            "blocking-count" => 2,
-            "seeded" => 10,
-            "clock" => 12,
-            "d1" => 28,
-            "d2" => 44,
-            "came" => 60,
-            _ => return None,
-        };
-        Some(first + index)
+        /// The record before and after it; what was put in between belongs to the
+        /// former.
+        before: Keeper,
+        after: Keeper,
     }
 
     fn done(text: &str) -> Vec<Done<'_>> {
         let mut done = Vec::new();
-        let mut before: Vec<String> = Vec::new();
+        let mut keeper = Keeper::make(&[0; START]).unwrap();
         let mut call = Vec::new();
         let mut answer = Vec::new();
         for line in text.lines().filter(|l| !l.starts_with('#')) {
@@ -690,23 +866,27 @@ mod tests {
             match w[0] {
                 "sequence" | "room" => {}
                 "put" => {
-                    if let Some(at) = word_at(w[1], number(w[2])) {
-                        before[at] = w[3].to_owned();
-                    }
+                    let field = FIELDS.into_iter().find(|f| *f == w[1]).unwrap();
+                    let index = number(w[2]);
+                    put(&mut keeper, Place { field, index }, number(w[3]));
                 }
                 "answer" => answer = w,
                 "keeper" if w[1] == "none" => {}
                 "keeper" => {
-                    let words = w.iter().map(|word| (*word).to_owned()).collect();
+                    let before = keeper.clone();
+                    tell(&mut keeper, line);
                     if answer[1] == "0" && call[0] != "make" {
                         done.push(Done {
                             call: call.clone(),
                             added: number(answer[5]),
-                            before: before.clone(),
-                            after: w,
+                            before,
+                            after: keeper.clone(),
                         });
                     }
-                    before = words;
+                }
+                "make" => {
+                    keeper = Keeper::make(&[0; START]).unwrap();
+                    call = w;
                 }
                 _ => call = w,
             }
@@ -715,12 +895,12 @@ mod tests {
     }
 
     impl Done<'_> {
-        fn before(&self, field: &str, index: usize) -> i64 {
-            number(&self.before[word_at(field, index).unwrap()])
+        fn before(&self, field: &'static str, index: usize) -> i64 {
+            get(&self.before, Place { field, index })
         }
 
-        fn after(&self, field: &str, index: usize) -> i64 {
-            number(self.after[word_at(field, index).unwrap()])
+        fn after(&self, field: &'static str, index: usize) -> i64 {
+            get(&self.after, Place { field, index })
         }
 
         /// The device of an event.
@@ -764,7 +944,7 @@ mod tests {
         ];
         let mut seeders = BTreeSet::new();
         for seed in 0..30 {
-            let done = done_unseeded_with_enough(&trace(seed, 1));
+            let done = done_unseeded_with_enough(&chance_alone(seed, 1));
             for name in nothing {
                 assert!(done.contains(&(name.to_owned(), false)), "{seed}: {name}");
             }
@@ -792,7 +972,7 @@ mod tests {
 
     #[test]
     fn events_of_new_devices_are_worth_something_and_earn_nothing() {
-        let text = trace(8, 120);
+        let text = chance_alone(8, 120);
         let done = done(&text);
         for came in 0..3 {
             let (worthy, earning) = worthy_and_earning(&done, came);
@@ -806,7 +986,7 @@ mod tests {
 
     #[test]
     fn each_event_that_is_done_counts_up_to_three() {
-        let text = trace(9, 60);
+        let text = chance_alone(9, 60);
         for d in done(&text) {
             for device in 0..DEVICES {
                 let before = d.before("came", device);
@@ -817,14 +997,14 @@ mod tests {
     }
 
     /// What a count rises by at a call; less than nothing where it falls.
-    fn rise(d: &Done, field: &str) -> i64 {
+    fn rise(d: &Done, field: &'static str) -> i64 {
         d.after(field, 0) - d.before(field, 0)
     }
 
     /// Where nothing is taken out of a pool, its count tells what was added.
     #[test]
     fn calls_add_what_the_input_count_rises_by() {
-        let text = trace(10, 120);
+        let text = chance_alone(10, 120);
         let mut times = 0;
         for d in done(&text) {
             let seeds = d.before("seeded", 0) != d.after("seeded", 0);
@@ -842,7 +1022,7 @@ mod tests {
 
     #[test]
     fn pools_that_are_nearly_full() {
-        let text = trace(11, 120);
+        let text = chance_alone(11, 120);
         let done = done(&text);
         let times = |shows: &dyn Fn(&Done) -> bool| done.iter().filter(|d| shows(d)).count();
         // A transfer that adds nothing to the blocking pool, or very little.
@@ -863,9 +1043,22 @@ mod tests {
     }
 
     #[test]
-    fn a_keeper_line_has_all_its_words() {
-        let keeper = Keeper::make(&[0; START]).unwrap();
-        let line = keeper_line(&keeper);
-        assert_eq!(line.split(' ').count(), 1 + 11 + 64 + 180);
+    fn a_keeper_line_tells_of_the_timers_that_changed() {
+        let before = Keeper::make(&[0; START]).unwrap();
+        assert_eq!(keeper_line(&before, &before), "keeper same");
+        let mut after = before.clone();
+        after.tally = 3;
+        let words = |after: &Keeper| keeper_line(&before, after).split(' ').count();
+        assert_eq!(words(&after), 1 + 11 + 180);
+        after.timers[1_023] = Timer {
+            clock: 1,
+            d1: -2,
+            d2: -3,
+            came: 1,
+        };
+        after.timers[7].d2 = 9;
+        let line = keeper_line(&before, &after);
+        assert!(line.ends_with(" 7 0 0 9 0 1023 1 -2 -3 1"), "{line}");
+        assert_eq!(words(&after), 1 + 11 + 180 + 10);
     }
 }

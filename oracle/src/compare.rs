@@ -7,7 +7,7 @@ use std::path::Path;
 use std::process::{Command, Stdio};
 
 use crate::folder::Folder;
-use crate::journal::{self, Record, Records, HEADER};
+use crate::journal::{self, Record, Records, Version, HEADER};
 use crate::maker;
 use crate::transcript::transcript;
 
@@ -230,6 +230,9 @@ fn window(line: Option<&str>, column: usize) -> String {
 /// A journal taken apart. The tail is what no longer reads as a record.
 #[derive(Clone, Debug, PartialEq)]
 struct Pieces {
+    /// How its records are read. Where the header names no version they are not,
+    /// and either will do.
+    version: Version,
     header: Vec<u8>,
     records: Vec<Vec<u8>>,
     tail: Vec<u8>,
@@ -238,12 +241,14 @@ struct Pieces {
 impl Pieces {
     fn of(journal: &[u8]) -> Pieces {
         let (header, body) = journal.split_at(journal.len().min(HEADER));
+        let version = Version::of(journal).unwrap_or(Version::One);
         let mut pieces = Pieces {
+            version,
             header: header.to_vec(),
             records: Vec::new(),
             tail: Vec::new(),
         };
-        let mut reading = Records::new(body);
+        let mut reading = Records::new(version, body);
         loop {
             let before = reading.rest();
             match reading.next() {
@@ -339,7 +344,9 @@ fn edits(pieces: &Pieces) -> Vec<Edit> {
         }
         size /= 2;
     }
-    let plain: Vec<Vec<u8>> = pieces.records.iter().map(|r| plain_record(r)).collect();
+    let version = pieces.version;
+    let plain = pieces.records.iter().map(|r| plain_record(version, r));
+    let plain: Vec<Vec<u8>> = plain.collect();
     if plain != pieces.records {
         edits.push(Edit::AllRecords(plain));
     }
@@ -348,23 +355,23 @@ fn edits(pieces: &Pieces) -> Vec<Edit> {
     // Small steps are for the end, when few records are left.
     let fine = count <= FEW;
     for (at, record) in pieces.records.iter().enumerate() {
-        for lower in lower_records(record, fine) {
+        for lower in lower_records(version, record, fine) {
             edits.push(Edit::Record(at, lower));
         }
     }
     edits
 }
 
-fn parse(record: &[u8]) -> Record<'_> {
-    let first = Records::new(record).next();
+fn parse(version: Version, record: &[u8]) -> Record<'_> {
+    let first = Records::new(version, record).next();
     first
         .and_then(Result::ok)
         .expect("the record was read before")
 }
 
 /// The same record with zero for all that is only mixed in.
-fn plain_record(record: &[u8]) -> Vec<u8> {
-    let mut plain = parse(record);
+fn plain_record(version: Version, record: &[u8]) -> Vec<u8> {
+    let mut plain = parse(version, record);
     match &mut plain {
         Record::Device { stamp, .. } => *stamp = 0,
         Record::Interrupt {
@@ -380,7 +387,7 @@ fn plain_record(record: &[u8]) -> Vec<u8> {
         Record::Write { bytes, .. } | Record::Seed { bytes, .. } => bytes.to_mut().fill(0),
         Record::Generator { .. } | Record::Blocking { .. } => {}
     }
-    plain.to_bytes()
+    plain.to_bytes(version)
 }
 
 /// Numbers below this one, the boldest first: zero, then half of it, and where
@@ -412,10 +419,10 @@ fn lower_bytes(bytes: &[u8], fine: bool) -> Vec<Vec<u8>> {
 }
 
 /// Records of the same kind with one field lowered.
-fn lower_records(record: &[u8], fine: bool) -> Vec<Vec<u8>> {
+fn lower_records(version: Version, record: &[u8], fine: bool) -> Vec<Vec<u8>> {
     let mut lower = Vec::new();
-    let original = parse(record);
-    let mut push = |record: Record| lower.push(record.to_bytes());
+    let original = parse(version, record);
+    let mut push = |record: Record| lower.push(record.to_bytes(version));
     // Writes the record once for each lower number of a field.
     macro_rules! fields {
         ($kind:ident: $($field:ident as $number:ty),+) => {
@@ -456,7 +463,7 @@ fn lower_records(record: &[u8], fine: bool) -> Vec<Vec<u8>> {
         }
         _ => {}
     }
-    fields!(Device: now as u32, device as u8, stamp as u64, value as u32);
+    fields!(Device: now as u32, device as u32, stamp as u64, value as u32);
     fields!(Interrupt: now as u32, number as u32, stamp as u64, address as u64);
     fields!(Write: now as u32);
     fields!(Seed: now as u32, credit as u32);
@@ -553,8 +560,12 @@ mod tests {
         };
         let (differences, text) = run(&mut wrong, 60);
         assert!(differences > 0);
-        assert!(text.contains("device 16 stamp 0x0 value 0x0"), "{text}");
-        assert!(text.contains("71 bytes"), "{text}");
+        // A device that version 1 has not, and one that no version has.
+        for (device, bytes) in [(16, 71), (1_024, 72)] {
+            let listed = format!("device {device} stamp 0x0 value 0x0");
+            assert!(text.contains(&listed), "{text}");
+            assert!(text.contains(&format!("{bytes} bytes")), "{text}");
+        }
     }
 
     #[test]

@@ -31,7 +31,7 @@ pub struct Placed<'a> {
 /// All records of a journal, or the number that ends its replay where that is
 /// another than 0.
 pub fn records(journal: &[u8]) -> Result<Vec<Placed<'_>>, u8> {
-    let (_, mut reading) = journal::open(journal)?;
+    let mut reading = journal::open(journal)?.records;
     let mut records = Vec::new();
     loop {
         let place = journal.len() - reading.rest().len();
@@ -166,7 +166,7 @@ pub fn look<'a, F: Form>(
 #[cfg(test)]
 mod tests {
     use super::*;
-    use crate::journal::{Records, CUT_SHORT, HEADER, LARGEST, TOO_LARGE, UNKNOWN_KIND};
+    use crate::journal::{Records, Version, CUT_SHORT, HEADER, LARGEST, TOO_LARGE, UNKNOWN_KIND};
     use crate::maker::sized;
     use crate::random::Random;
 
@@ -181,7 +181,7 @@ mod tests {
     ];
 
     fn journal(parts: &[&[u8]]) -> Vec<u8> {
-        let mut out = journal::header(&[0; 48]);
+        let mut out = journal::header(Version::One, &[0; 48]);
         out.extend(parts.concat());
         out
     }
@@ -265,29 +265,69 @@ mod tests {
     #[test]
     fn from_each_entry_the_same_records_are_reached_as_by_counting() {
         let random = &mut Random::new(3, 0);
-        let journal = sized::of_records(random, 300);
-        let index = fresh(&journal).unwrap();
-        for (number, counted) in records(&journal).unwrap().iter().enumerate() {
-            let entry = index.places[number / STEP] as usize;
-            let mut reading = Records::new(&journal[entry..]);
-            let found = reading.nth(number % STEP).unwrap();
-            assert_eq!(found.as_ref(), Ok(&counted.record));
+        for version in Version::ALL {
+            let journal = sized::of_records(random, version, 300);
+            let index = fresh(&journal).unwrap();
+            for (number, counted) in records(&journal).unwrap().iter().enumerate() {
+                let entry = index.places[number / STEP] as usize;
+                let mut reading = Records::new(version, &journal[entry..]);
+                let found = reading.nth(number % STEP).unwrap();
+                assert_eq!(found.as_ref(), Ok(&counted.record));
+            }
         }
     }
 
     #[test]
     fn the_index_after_an_appending_is_the_longer_journals() {
         let random = &mut Random::new(4, 0);
-        let mut journal = sized::of_records(random, 0);
-        let mut kept = InFile::of(&fresh(&journal).unwrap());
-        for count in [1, 0, 62, 1, 1, 63, 1, 5] {
-            let more = sized::part(random, count);
-            let (longer, index) = append(&journal, &kept, &more).unwrap();
-            assert_eq!(longer, [&journal[..], &more].concat());
-            assert_eq!(index, InFile::of(&fresh(&longer).unwrap()));
-            (journal, kept) = (longer, index);
+        for version in Version::ALL {
+            let mut journal = sized::of_records(random, version, 0);
+            let mut kept = InFile::of(&fresh(&journal).unwrap());
+            for count in [1, 0, 62, 1, 1, 63, 1, 5] {
+                let more = sized::part(random, version, count);
+                let (longer, index) = append(&journal, &kept, &more).unwrap();
+                assert_eq!(longer, [&journal[..], &more].concat());
+                assert_eq!(index, InFile::of(&fresh(&longer).unwrap()));
+                (journal, kept) = (longer, index);
+            }
+            assert_eq!(fresh(&journal).unwrap().records(), 134);
         }
-        assert_eq!(fresh(&journal).unwrap().records(), 134);
+    }
+
+    #[test]
+    fn an_event_of_version_2_is_a_byte_longer_and_the_index_knows() {
+        let mut journal = journal::header(Version::Two, &[0; 48]);
+        for _ in 0..65 {
+            let record = Record::Device {
+                now: 7,
+                device: 1_023,
+                stamp: 3,
+                value: 4,
+            };
+            record.write(Version::Two, &mut journal);
+        }
+        let index = fresh(&journal).unwrap();
+        assert_eq!(index.places, [53, 53 + 64 * 19]);
+        assert_eq!(index.kinds, [65, 0, 0, 0, 0, 0]);
+        // The index's own version is not the journal's.
+        let InFile(file) = InFile::of(&index);
+        assert_eq!(file[..5], *b"NKI\x01\x00");
+    }
+
+    #[test]
+    fn what_is_appended_is_read_in_the_journals_version() {
+        let one = journal(&[]);
+        let two = journal::header(Version::Two, &[0; 48]);
+        let wider = [&EVENT[..6], &[0], &EVENT[6..]].concat();
+        let number = |journal: &[u8], more: &[u8]| {
+            let right = InFile::of(&fresh(journal).unwrap());
+            append(journal, &right, more).err().unwrap_or(0)
+        };
+        assert_eq!(number(&one, &EVENT), 0);
+        assert_eq!(number(&two, &wider), 0);
+        assert_eq!(number(&two, &EVENT), CUT_SHORT);
+        // 18 bytes are an event, and the last is the kind of another record.
+        assert_eq!(number(&one, &wider), UNKNOWN_KIND);
     }
 
     #[test]

@@ -1,9 +1,10 @@
-//! The journal: its header, its records, reading and writing both.
+//! The journal: its header, its records, reading and writing both. What its
+//! versions have not in common stands in `Version`, and nowhere else.
 
 use std::borrow::Cow;
 use std::fmt;
 
-use crate::keeper::{LONGEST, START, TOO_LONG};
+use crate::keeper::{DEVICES, LONGEST, START, TOO_LONG};
 
 // The numbers that only a replay ends with.
 pub const WRONG_MARK: u8 = 8;
@@ -13,17 +14,83 @@ pub const UNKNOWN_KIND: u8 = 11;
 pub const TOO_LARGE: u8 = 12;
 
 pub const MARK: [u8; 3] = *b"NKJ";
-pub const VERSION: u16 = 1;
 /// Mark, version and start bytes.
 pub const HEADER: usize = MARK.len() + 2 + START;
 /// The largest journal that is replayed.
 pub const LARGEST: usize = 61_440;
 
+/// The versions that are replayed.
+#[derive(Clone, Copy, Debug, PartialEq, Eq, PartialOrd, Ord)]
+pub enum Version {
+    One,
+    Two,
+}
+
+impl Version {
+    pub const ALL: [Version; 2] = [Version::One, Version::Two];
+
+    /// Both again and again.
+    pub fn in_turn() -> impl Iterator<Item = Version> {
+        Version::ALL.into_iter().cycle()
+    }
+
+    pub fn number(self) -> u16 {
+        match self {
+            Version::One => 1,
+            Version::Two => 2,
+        }
+    }
+
+    /// The bytes that stand behind the mark.
+    pub fn field(self) -> [u8; 2] {
+        self.number().to_le_bytes()
+    }
+
+    /// The version that a header names; the mark and the start are not looked at.
+    pub fn of(journal: &[u8]) -> Option<Version> {
+        let field = journal.get(MARK.len()..MARK.len() + 2)?;
+        Version::ALL.into_iter().find(|v| v.field() == field)
+    }
+
+    pub fn other(self) -> Version {
+        match self {
+            Version::One => Version::Two,
+            Version::Two => Version::One,
+        }
+    }
+
+    /// The bytes that an event's device takes.
+    pub fn device_bytes(self) -> usize {
+        match self {
+            Version::One => 1,
+            Version::Two => 2,
+        }
+    }
+
+    /// How many devices its events may name, from 0 on. The keeper has more than
+    /// there were when version 1 was written, but its journals replay as ever.
+    pub const fn devices(self) -> u32 {
+        match self {
+            Version::One => 16,
+            Version::Two => DEVICES as u32,
+        }
+    }
+
+    /// The greatest number that its device field holds.
+    pub fn last_number(self) -> u32 {
+        match self {
+            Version::One => u8::MAX.into(),
+            Version::Two => u16::MAX.into(),
+        }
+    }
+}
+
 #[derive(Clone, Debug, PartialEq)]
 pub enum Record<'a> {
     Device {
         now: u32,
-        device: u8,
+        /// As wide as a call takes it; a journal's field is narrower.
+        device: u32,
         stamp: u64,
         value: u32,
     },
@@ -52,19 +119,28 @@ pub enum Record<'a> {
     },
 }
 
-/// Tests the header. Gives the start bytes and the records after them, or
-/// the number that ends the replay before its first record.
-pub fn open(journal: &[u8]) -> Result<(&[u8], Records<'_>), u8> {
+/// A journal whose header is good.
+pub struct Opened<'a> {
+    pub version: Version,
+    pub start: &'a [u8],
+    pub records: Records<'a>,
+}
+
+/// Tests the header. Gives what it holds and the records after it, or the
+/// number that ends the replay before its first record.
+pub fn open(journal: &[u8]) -> Result<Opened<'_>, u8> {
     if journal.len() > LARGEST {
         return Err(TOO_LARGE);
     }
     let rest = journal.strip_prefix(&MARK).ok_or(WRONG_MARK)?;
-    let (version, rest) = split(rest, 2)?;
-    if version != VERSION.to_le_bytes() {
-        return Err(WRONG_VERSION);
-    }
+    let (_, rest) = split(rest, 2)?;
+    let version = Version::of(journal).ok_or(WRONG_VERSION)?;
     let (start, rest) = split(rest, START)?;
-    Ok((start, Records::new(rest)))
+    Ok(Opened {
+        version,
+        start,
+        records: Records::new(version, rest),
+    })
 }
 
 /// The first bytes of a part of the journal and what comes after them, or
@@ -79,12 +155,13 @@ fn split(part: &[u8], length: usize) -> Result<(&[u8], &[u8]), u8> {
 /// The records of a journal in their order. An `Err` holds the number that
 /// ends the replay and is the last item.
 pub struct Records<'a> {
+    version: Version,
     rest: &'a [u8],
 }
 
 impl<'a> Records<'a> {
-    pub fn new(rest: &'a [u8]) -> Records<'a> {
-        Records { rest }
+    pub fn new(version: Version, rest: &'a [u8]) -> Records<'a> {
+        Records { version, rest }
     }
 
     /// What has not been read yet.
@@ -101,7 +178,7 @@ impl<'a> Iterator for Records<'a> {
             return None;
         }
         let mut fields = Fields { rest: self.rest };
-        let record = fields.record();
+        let record = fields.record(self.version);
         self.rest = if record.is_ok() { fields.rest } else { &[] };
         Some(record)
     }
@@ -137,6 +214,13 @@ impl<'a> Fields<'a> {
         self.take().map(u64::from_le_bytes)
     }
 
+    fn device(&mut self, version: Version) -> Result<u32, u8> {
+        match version {
+            Version::One => self.u8().map(u32::from),
+            Version::Two => self.u16().map(u32::from),
+        }
+    }
+
     /// The bytes of a write or seed, a part of the journal itself. A length
     /// out of bounds counts before bytes that are missing.
     fn bytes(&mut self, length: u16) -> Result<Cow<'a, [u8]>, u8> {
@@ -149,7 +233,7 @@ impl<'a> Fields<'a> {
         Ok(Cow::Borrowed(bytes))
     }
 
-    fn record(&mut self) -> Result<Record<'a>, u8> {
+    fn record(&mut self, version: Version) -> Result<Record<'a>, u8> {
         let kind = self.u8()?;
         if !(1..=6).contains(&kind) {
             return Err(UNKNOWN_KIND);
@@ -158,7 +242,7 @@ impl<'a> Fields<'a> {
         Ok(match kind {
             1 => Record::Device {
                 now,
-                device: self.u8()?,
+                device: self.device(version)?,
                 stamp: self.u64()?,
                 value: self.u32()?,
             },
@@ -192,9 +276,9 @@ impl<'a> Fields<'a> {
 }
 
 /// The header of a good journal with these start bytes.
-pub fn header(start: &[u8; START]) -> Vec<u8> {
+pub fn header(version: Version, start: &[u8]) -> Vec<u8> {
     let mut out = MARK.to_vec();
-    out.extend(VERSION.to_le_bytes());
+    out.extend(version.field());
     out.extend(start);
     out
 }
@@ -212,9 +296,9 @@ impl Record<'_> {
         }
     }
 
-    /// Puts the record at the end of a journal. Bytes that no length field
-    /// can hold are a mistake of the caller.
-    pub fn write(&self, out: &mut Vec<u8>) {
+    /// Puts the record at the end of a journal of this version. A device or
+    /// bytes that no field can hold are a mistake of the caller.
+    pub fn write(&self, version: Version, out: &mut Vec<u8>) {
         let length = |bytes: &[u8]| u16::try_from(bytes.len()).expect("too many bytes");
         out.push(self.kind());
         match self {
@@ -225,7 +309,8 @@ impl Record<'_> {
                 value,
             } => {
                 out.extend(now.to_le_bytes());
-                out.push(*device);
+                assert!(*device <= version.last_number(), "no field holds {device}");
+                out.extend(&device.to_le_bytes()[..version.device_bytes()]);
                 out.extend(stamp.to_le_bytes());
                 out.extend(value.to_le_bytes());
             }
@@ -262,9 +347,9 @@ impl Record<'_> {
         }
     }
 
-    pub fn to_bytes(&self) -> Vec<u8> {
+    pub fn to_bytes(&self, version: Version) -> Vec<u8> {
         let mut out = Vec::new();
-        self.write(&mut out);
+        self.write(version, &mut out);
         out
     }
 }
@@ -272,6 +357,14 @@ impl Record<'_> {
 /// Lowercase hex.
 pub fn hex(bytes: &[u8]) -> String {
     bytes.iter().map(|b| format!("{b:02x}")).collect()
+}
+
+/// The hex of bytes as a word of a line, which is never empty.
+pub fn hex_word(bytes: &[u8]) -> String {
+    match bytes {
+        [] => "-".to_owned(),
+        bytes => hex(bytes),
+    }
 }
 
 /// Hex for a reader's eye: long bytes are broken off.
@@ -331,7 +424,11 @@ impl fmt::Display for Record<'_> {
 /// A readable listing of a journal, damaged or not.
 pub fn listing(journal: &[u8]) -> String {
     let mut out = format!("{} bytes\n", journal.len());
-    let (start, mut records) = match open(journal) {
+    let Opened {
+        version,
+        start,
+        mut records,
+    } = match open(journal) {
         Ok(opened) => opened,
         Err(number) => {
             out += &format!(
@@ -342,7 +439,7 @@ pub fn listing(journal: &[u8]) -> String {
             return out;
         }
     };
-    out += &format!("start {}\n", hex(start));
+    out += &format!("version {}, start {}\n", version.number(), hex(start));
     let mut line = 1;
     loop {
         let at = journal.len() - records.rest().len();
@@ -366,14 +463,18 @@ pub fn listing(journal: &[u8]) -> String {
 mod tests {
     use super::*;
 
+    fn event(device: u32) -> Record<'static> {
+        Record::Device {
+            now: 0x0102_0304,
+            device,
+            stamp: 0x1112_1314_1516_1718,
+            value: 0x2122_2324,
+        }
+    }
+
     fn one_of_each() -> Vec<Record<'static>> {
         vec![
-            Record::Device {
-                now: 0x0102_0304,
-                device: 5,
-                stamp: 0x1112_1314_1516_1718,
-                value: 0x2122_2324,
-            },
+            event(5),
             Record::Interrupt {
                 now: 1,
                 number: 2,
@@ -397,10 +498,10 @@ mod tests {
         ]
     }
 
-    fn journal(records: &[Record]) -> Vec<u8> {
-        let mut out = header(&[1; START]);
+    fn journal(version: Version, records: &[Record]) -> Vec<u8> {
+        let mut out = header(version, &[1; START]);
         for record in records {
-            record.write(&mut out);
+            record.write(version, &mut out);
         }
         out
     }
@@ -408,89 +509,144 @@ mod tests {
     fn ending(journal: &[u8]) -> u8 {
         match open(journal) {
             Err(number) => number,
-            Ok((_, mut records)) => records.find_map(Result::err).unwrap_or(0),
+            Ok(mut opened) => opened.records.find_map(Result::err).unwrap_or(0),
         }
     }
 
     #[test]
     fn what_is_written_is_read_back() {
-        let records = one_of_each();
-        let journal = journal(&records);
-        let (start, read) = open(&journal).unwrap();
-        assert_eq!(start, [1; START]);
-        assert_eq!(read.map(Result::unwrap).collect::<Vec<_>>(), records);
+        for version in Version::ALL {
+            let mut records = one_of_each();
+            let last = version.last_number();
+            records.extend([0, 15, 16, 255, last].map(event));
+            let journal = journal(version, &records);
+            let opened = open(&journal).unwrap();
+            assert_eq!((opened.version, opened.start), (version, &[1; START][..]));
+            let read: Vec<Record> = opened.records.map(Result::unwrap).collect();
+            assert_eq!(read, records);
+        }
     }
 
     #[test]
     fn layout_of_a_device_event() {
+        let stamp_and_value = "1817161514131211".to_owned() + "24232221";
+        let laid_out = |device, version| hex(&event(device).to_bytes(version));
         assert_eq!(
-            hex(&one_of_each()[0].to_bytes()),
-            "0104030201051817161514131211".to_owned() + "24232221"
+            laid_out(5, Version::One),
+            "010403020105".to_owned() + &stamp_and_value
+        );
+        assert_eq!(
+            laid_out(5, Version::Two),
+            "01040302010500".to_owned() + &stamp_and_value
+        );
+        assert_eq!(
+            laid_out(0x03fe, Version::Two),
+            "0104030201fe03".to_owned() + &stamp_and_value
         );
     }
 
     #[test]
+    fn the_versions_differ_in_their_number_and_in_the_device_alone() {
+        let [one, two] = Version::ALL.map(|version| journal(version, &one_of_each()));
+        assert_eq!(one[3..5], [1, 0]);
+        assert_eq!(two[3..5], [2, 0]);
+        let at = HEADER + 1 + 4 + 1;
+        assert_eq!(two[at], 0);
+        assert_eq!(one[5..at], two[5..at]);
+        assert_eq!(one[at..], two[at + 1..]);
+    }
+
+    #[test]
     fn bytes_are_lent_not_copied() {
-        let journal = journal(&one_of_each());
-        for record in open(&journal).unwrap().1 {
-            if let Record::Write { bytes, .. } | Record::Seed { bytes, .. } = record.unwrap() {
-                assert!(matches!(bytes, Cow::Borrowed(_)));
+        for version in Version::ALL {
+            let journal = journal(version, &one_of_each());
+            for record in open(&journal).unwrap().records {
+                if let Record::Write { bytes, .. } | Record::Seed { bytes, .. } = record.unwrap() {
+                    assert!(matches!(bytes, Cow::Borrowed(_)));
+                }
             }
         }
     }
 
     #[test]
     fn every_cut_ends_with_its_number() {
-        let records = one_of_each();
-        let whole = journal(&records);
-        let mut bounds = vec![HEADER];
-        for record in &records {
-            bounds.push(bounds.last().unwrap() + record.to_bytes().len());
-        }
-        for cut in 0..=whole.len() {
-            let expected = match cut {
-                0..=2 => WRONG_MARK,
-                _ if bounds.contains(&cut) => 0,
-                _ => CUT_SHORT,
-            };
-            assert_eq!(ending(&whole[..cut]), expected, "cut at {cut}");
+        for version in Version::ALL {
+            let records = one_of_each();
+            let whole = journal(version, &records);
+            let mut bounds = vec![HEADER];
+            for record in &records {
+                bounds.push(bounds.last().unwrap() + record.to_bytes(version).len());
+            }
+            for cut in 0..=whole.len() {
+                let expected = match cut {
+                    0..=2 => WRONG_MARK,
+                    _ if bounds.contains(&cut) => 0,
+                    _ => CUT_SHORT,
+                };
+                assert_eq!(ending(&whole[..cut]), expected, "cut at {cut}");
+            }
         }
     }
 
     #[test]
     fn order_of_the_tests() {
-        let good = journal(&one_of_each());
         let mut large = vec![0; LARGEST + 1];
         assert_eq!(ending(&large), TOO_LARGE);
         large.pop();
         assert_eq!(ending(&large), WRONG_MARK);
         assert_eq!(ending(b"NKX"), WRONG_MARK);
-        assert_eq!(ending(b"NKJ\x02"), CUT_SHORT);
-        assert_eq!(ending(b"NKJ\x02\x00"), WRONG_VERSION);
-        assert_eq!(ending(b"NKJ\x00\x01"), WRONG_VERSION);
+        assert_eq!(ending(b"NKX\x02\x00"), WRONG_MARK);
+        assert_eq!(ending(b"NKJ\x03"), CUT_SHORT);
         assert_eq!(ending(b"NKJ\x01\x00"), CUT_SHORT);
+        assert_eq!(ending(b"NKJ\x02\x00"), CUT_SHORT);
 
-        let after = |tail: &[u8]| ending(&[&good[..HEADER], tail].concat());
-        assert_eq!(after(&[0]), UNKNOWN_KIND);
-        assert_eq!(after(&[7]), UNKNOWN_KIND);
-        assert_eq!(after(&[3, 0, 0, 0, 0, 1]), CUT_SHORT);
-        assert_eq!(after(&[3, 0, 0, 0, 0, 1, 16]), TOO_LONG);
-        assert_eq!(after(&[3, 0, 0, 0, 0, 0, 16]), CUT_SHORT);
-        // The credit is a field too: it must be there before the length counts.
-        assert_eq!(after(&[4, 0, 0, 0, 0, 1, 16]), CUT_SHORT);
-        assert_eq!(after(&[4, 0, 0, 0, 0, 1, 16, 0, 0, 0, 0]), TOO_LONG);
-        assert_eq!(after(&[5, 0, 0, 0, 0, 255, 255]), 0);
+        for version in Version::ALL {
+            let good = journal(version, &one_of_each());
+            let after = |tail: &[u8]| ending(&[&good[..HEADER], tail].concat());
+            assert_eq!(after(&[0]), UNKNOWN_KIND);
+            assert_eq!(after(&[7]), UNKNOWN_KIND);
+            assert_eq!(after(&[3, 0, 0, 0, 0, 1]), CUT_SHORT);
+            assert_eq!(after(&[3, 0, 0, 0, 0, 1, 16]), TOO_LONG);
+            assert_eq!(after(&[3, 0, 0, 0, 0, 0, 16]), CUT_SHORT);
+            // The credit is a field too: it must be there before the length counts.
+            assert_eq!(after(&[4, 0, 0, 0, 0, 1, 16]), CUT_SHORT);
+            assert_eq!(after(&[4, 0, 0, 0, 0, 1, 16, 0, 0, 0, 0]), TOO_LONG);
+            assert_eq!(after(&[5, 0, 0, 0, 0, 255, 255]), 0);
+        }
+    }
+
+    #[test]
+    fn versions_that_are_neither() {
+        let whole = |version: u16| {
+            let mut journal = journal(Version::One, &[]);
+            journal[3..5].copy_from_slice(&version.to_le_bytes());
+            journal
+        };
+        for version in 0..=u16::MAX {
+            let expected = if [1, 2].contains(&version) {
+                0
+            } else {
+                WRONG_VERSION
+            };
+            assert_eq!(ending(&whole(version)), expected, "version {version}");
+            // It counts before a start that is missing.
+            let expected = if expected == 0 { CUT_SHORT } else { expected };
+            assert_eq!(ending(&whole(version)[..5]), expected);
+            assert_eq!(ending(&whole(version)[..HEADER - 1]), expected);
+        }
     }
 
     #[test]
     fn a_journal_of_the_largest_size_is_read() {
-        let mut journal = journal(&[]);
-        while journal.len() < LARGEST {
-            let room = (LARGEST - journal.len() - 7).min(4_000);
-            let bytes = Cow::Owned(vec![0; room]);
-            Record::Write { now: 0, bytes }.write(&mut journal);
+        for version in Version::ALL {
+            let mut journal = journal(version, &[]);
+            while journal.len() < LARGEST {
+                let room = (LARGEST - journal.len() - 7).min(4_000);
+                let bytes = Cow::Owned(vec![0; room]);
+                Record::Write { now: 0, bytes }.write(version, &mut journal);
+            }
+            assert_eq!(journal.len(), LARGEST);
+            assert_eq!(ending(&journal), 0);
         }
-        assert_eq!(journal.len(), LARGEST);
-        assert_eq!(ending(&journal), 0);
     }
 }

@@ -19,7 +19,7 @@ pub const OUT_OF_RANGE: u8 = 17;
 pub const START: usize = 48;
 /// The longest write, seed or read.
 pub const LONGEST: usize = 4_096;
-pub const DEVICES: usize = 16;
+pub const DEVICES: usize = 1_024;
 
 /// Interrupts that make the fast pool spill, and the ticks after which it
 /// spills anyway.
@@ -87,7 +87,8 @@ impl Timer {
 pub struct Keeper {
     pub input: Pool,
     pub blocking: Pool,
-    pub timers: [Timer; DEVICES],
+    /// One for each device.
+    pub timers: Vec<Timer>,
     /// The value of device 0's last event.
     pub last_value: u32,
     pub fast: [u32; 4],
@@ -114,7 +115,7 @@ pub struct Answer {
 }
 
 impl Answer {
-    fn refusal(number: u8) -> Answer {
+    pub fn refusal(number: u8) -> Answer {
         Answer {
             number,
             ..Answer::default()
@@ -136,7 +137,7 @@ impl Keeper {
         Ok(Keeper {
             input: Pool::fresh(&INPUT),
             blocking: Pool::fresh(&BLOCKING),
-            timers: [Timer::default(); DEVICES],
+            timers: vec![Timer::default(); DEVICES],
             last_value: 0,
             fast: [0; 4],
             tally: 0,
@@ -156,11 +157,11 @@ impl Keeper {
             && self.generator[..4] == cipher::CONSTANTS
     }
 
-    pub fn device_event(&mut self, device: u8, now: u32, stamp: u64, value: u32) -> Answer {
+    pub fn device_event(&mut self, device: u32, now: u32, stamp: u64, value: u32) -> Answer {
         if !self.in_range() {
             return Answer::refusal(OUT_OF_RANGE);
         }
-        if usize::from(device) >= DEVICES {
+        if device as usize >= DEVICES {
             return Answer::refusal(NO_DEVICE);
         }
         if device == 0 {
@@ -173,7 +174,7 @@ impl Keeper {
         self.input.mix(&now.to_le_bytes());
         self.input.mix(&value.to_le_bytes());
 
-        let timer = &mut self.timers[usize::from(device)];
+        let timer = &mut self.timers[device as usize];
         let earned = timer.earned(now);
         *timer = timer.after(now);
         self.credit_input(earned, now)
@@ -445,10 +446,24 @@ mod tests {
     /// Clocks at which each of five events is worth something.
     const FIVE: [u32; 5] = [1_024, 1_100, 9_000, 9_500, 70_000];
 
+    /// Numbers past the last device, such as a narrow field would take for one
+    /// among them.
+    const NO_DEVICES: [u32; 9] = [
+        1_024,
+        1_025,
+        1_280,
+        2_047,
+        65_535,
+        65_536,
+        65_536 + 3,
+        1 << 31,
+        u32::MAX,
+    ];
+
     /// What the input count rises by at each of these events: a device, its
     /// clock and its value. The answers say the same.
-    fn rises(keeper: &mut Keeper, events: &[(u8, u32, u32)]) -> Vec<u32> {
-        let one = |(device, now, value): &(u8, u32, u32)| {
+    fn rises(keeper: &mut Keeper, events: &[(u32, u32, u32)]) -> Vec<u32> {
+        let one = |(device, now, value): &(u32, u32, u32)| {
             let before = keeper.input.count;
             let answer = keeper.device_event(*device, *now, 9, *value);
             assert_eq!(answer.added, keeper.input.count - before);
@@ -467,7 +482,7 @@ mod tests {
                 assert!(timer.worth(now) > 0);
                 let expected = if came < 3 { 0 } else { timer.worth(now) };
                 let expected = credited(keeper.input.count, INPUT.size, expected);
-                let answer = keeper.device_event(device as u8, now, 9, now);
+                let answer = keeper.device_event(device as u32, now, 9, now);
                 assert_eq!(keeper.input.count, expected.count);
                 assert_eq!(answer.added, expected.added);
             }
@@ -535,8 +550,12 @@ mod tests {
     #[test]
     fn refused_devices_and_records_out_of_range_do_not_count() {
         let mut keeper = fresh();
-        let events = [(16, 5_000, 1), (19, 5_000, 1), (255, 5_000, 1)];
-        assert_eq!(rises(&mut keeper, &events), [0; 3]);
+        let events = NO_DEVICES.map(|device| (device, 5_000, 1));
+        assert_eq!(rises(&mut keeper, &events), [0; 9]);
+        for device in NO_DEVICES {
+            let answer = keeper.device_event(device, 5_000, 1, 1);
+            assert_eq!(answer, Answer::refusal(NO_DEVICE));
+        }
         keeper.tally = 64;
         assert_eq!(keeper.device_event(3, 5_000, 1, 1).number, OUT_OF_RANGE);
         keeper.tally = 0;
@@ -546,12 +565,36 @@ mod tests {
     #[test]
     fn each_device_has_a_count_of_its_own() {
         let mut keeper = fresh();
-        let events: Vec<(u8, u32, u32)> = FIVE
+        let events: Vec<(u32, u32, u32)> = FIVE
             .iter()
             .flat_map(|now| [(2, *now, 1), (9, *now, 1)])
             .collect();
         let expected = [0, 0, 0, 0, 0, 0, 48, 47, 65, 65];
         assert_eq!(rises(&mut keeper, &events), expected);
+    }
+
+    #[test]
+    fn numbers_that_look_alike_have_timers_of_their_own() {
+        for (one, other) in [(0, 256), (3, 19), (255, 511), (511, 1_023), (1, 513)] {
+            let mut keeper = fresh();
+            let events = [one, one, other, one, one].into_iter().zip(FIVE);
+            let events: Vec<(u32, u32, u32)> = events.map(|(d, now)| (d, now, now)).collect();
+            let rises = rises(&mut keeper, &events);
+            assert_eq!(rises[..4], [0; 4]);
+            assert!(rises[4] > 0);
+            assert_eq!(keeper.timers[other as usize].came, 1);
+        }
+    }
+
+    #[test]
+    fn only_device_0_refuses_a_value_that_it_told_before() {
+        let mut keeper = fresh();
+        keeper.device_event(0, 1, 1, 77);
+        for device in [1, 16, 255, 256, 512, 768, 1_023] {
+            assert_eq!(keeper.device_event(device, 1, 1, 77).number, DONE);
+            assert_eq!(keeper.device_event(device, 1, 1, 77).number, DONE);
+        }
+        assert_eq!(keeper.device_event(0, 1, 1, 77).number, REPEATED);
     }
 
     #[test]
@@ -828,7 +871,7 @@ mod tests {
         let long = vec![1; LONGEST + 1];
         let mut room = vec![9; LONGEST + 1];
         let refused = Answer::refusal;
-        assert_eq!(keeper.device_event(16, 1, 1, 1), refused(NO_DEVICE));
+        assert_eq!(keeper.device_event(1_024, 1, 1, 1), refused(NO_DEVICE));
         assert_eq!(keeper.device_event(0, 1, 1, 0), refused(REPEATED));
         assert_eq!(keeper.write(&long), refused(TOO_LONG));
         assert_eq!(keeper.seed(1, &long, u32::MAX), refused(TOO_LONG));
@@ -848,7 +891,7 @@ mod tests {
     #[test]
     fn every_call_refuses_a_record_out_of_range() {
         type Damage = fn(&mut Keeper);
-        let ways: [Damage; 19] = [
+        let ways: [Damage; 26] = [
             |k| k.input.count = 32_769,
             |k| k.input.position = 128,
             |k| k.input.rotation = 32,
@@ -863,6 +906,13 @@ mod tests {
             |k| k.timers[0].came = 4,
             |k| k.timers[8].came = 128,
             |k| k.timers[15].came = 255,
+            |k| k.timers[16].d1 = D1_MOST + 1,
+            |k| k.timers[255].d2 = -D2_MOST - 1,
+            |k| k.timers[256].came = 4,
+            |k| k.timers[1_023].d1 = D1_LEAST - 1,
+            |k| k.timers[1_023].d1 = i64::MAX,
+            |k| k.timers[1_023].d2 = D2_MOST + 1,
+            |k| k.timers[1_023].came = 4,
             |k| k.generator[0] ^= 1,
             |k| k.generator[1] ^= 1 << 31,
             |k| k.generator[2] = 0,
@@ -875,7 +925,7 @@ mod tests {
             let before = keeper.clone();
             let mut room = [3; LONGEST + 1];
             let answers = [
-                keeper.device_event(16, 1, 1, 1),
+                keeper.device_event(1_024, 1, 1, 1),
                 keeper.device_event(0, 1, 1, 0),
                 keeper.interrupt(1, 1, 1, 1),
                 keeper.write(&room),

@@ -9,7 +9,7 @@ mod chance;
 use std::io::{self, Write};
 
 use crate::index::{self, Form, InMemory, Index, PAST_THE_LAST};
-use crate::journal::{hex, LARGEST, TOO_LARGE};
+use crate::journal::{hex_word, Version, LARGEST, TOO_LARGE};
 use crate::keeper::DONE;
 use crate::random::Random;
 
@@ -55,14 +55,6 @@ pub const FORMAT: &str = "\
 # record numbers that are handed in, and of the answers and places of a look-up
 # those past the record numbers, or all of them where it is refused.
 ";
-
-/// The hex of bytes, never an empty word.
-fn word_of(bytes: &[u8]) -> String {
-    match bytes {
-        [] => "-".to_owned(),
-        bytes => hex(bytes),
-    }
-}
 
 /// One number of an index.
 #[derive(Clone, Copy, Debug, PartialEq)]
@@ -183,7 +175,7 @@ impl Trace<'_> {
     fn room(&mut self, random: &mut Random, journal: &[u8]) -> io::Result<()> {
         let fill = random.below(256) as u8;
         self.lent.fill(fill, journal);
-        writeln!(self.out, "room {fill} {}", word_of(journal))
+        writeln!(self.out, "room {fill} {}", hex_word(journal))
     }
 
     fn length(&mut self, length: u64) -> io::Result<()> {
@@ -223,7 +215,7 @@ impl Trace<'_> {
     }
 
     fn append(&mut self, more: &[u8]) -> io::Result<()> {
-        writeln!(self.out, "append {}", word_of(more))?;
+        writeln!(self.out, "append {}", hex_word(more))?;
         let number = self.lent.append(more);
         writeln!(self.out, "answer {number} {}", self.lent.length)?;
         match number {
@@ -264,7 +256,8 @@ pub fn lookups(seed: u64, count: u64, out: &mut dyn Write) -> io::Result<()> {
     cases::all(&mut trace, &mut Random::new(!seed, 0))?;
     for number in 1..=count {
         trace.sequence()?;
-        chance::sequence(&mut trace, &mut Random::new(!seed, number))?;
+        let version = Version::ALL[number as usize % 2];
+        chance::sequence(&mut trace, &mut Random::new(!seed, number), version)?;
     }
     Ok(())
 }

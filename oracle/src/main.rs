@@ -5,6 +5,9 @@ mod balance;
 mod calls;
 mod cipher;
 mod compare;
+mod conversions;
+mod convert;
+mod converts;
 mod credits;
 mod folder;
 mod hash;
@@ -21,6 +24,7 @@ mod situations;
 mod summaries;
 mod tally;
 mod transcript;
+mod trial;
 mod watch;
 mod words;
 
@@ -30,6 +34,7 @@ use std::path::{Path, PathBuf};
 use std::process::ExitCode;
 
 use pick::Picked;
+use trial::Course;
 use words::Order;
 
 const USAGE: &str = "\
@@ -45,6 +50,9 @@ usage: oracle transcript FILE..
        oracle look JOURNAL INDEX N..
        oracle summaries --seed S --count N [--keep DIR] --program COMMAND..
        oracle lookups --seed S --count N
+       oracle convert JOURNAL OUT
+       oracle conversions --seed S --count N [--keep DIR] --program COMMAND..
+       oracle converts --seed S --count N
 ";
 
 /// The words of a command line after the command's name.
@@ -158,25 +166,18 @@ fn run(words: &[String], out: &mut dyn Write) -> Result<bool, String> {
             let differences = compare::compare(&settings, &mut program, out).map_err(text)?;
             Ok(differences == 0)
         }
-        "summaries" => {
-            if options.program.is_empty() {
-                return Err(USAGE.to_owned());
-            }
-            let settings = summaries::Settings {
-                seed: options.seed,
-                count: options.count,
-                keep: options.keep.as_deref(),
-            };
-            let mut program = summaries::Outside::new(options.program).map_err(text)?;
-            let differences = summaries::summaries(&settings, &mut program, out).map_err(text)?;
-            Ok(differences == 0)
-        }
+        "summaries" => try_out(&summaries::COURSE, options, out),
+        "conversions" => try_out(&conversions::COURSE, options, out),
         "calls" => {
             calls::calls(options.seed, options.count, out).map_err(text)?;
             Ok(true)
         }
         "lookups" => {
             lookups::lookups(options.seed, options.count, out).map_err(text)?;
+            Ok(true)
+        }
+        "converts" => {
+            converts::converts(options.seed, options.count, out).map_err(text)?;
             Ok(true)
         }
         "tally" => {
@@ -191,6 +192,22 @@ fn run(words: &[String], out: &mut dyn Write) -> Result<bool, String> {
         }
         other => Err(format!("unknown command {other}\n{USAGE}")),
     }
+}
+
+/// Holds a program's words that work on files to ours; true where nothing differs.
+fn try_out(course: &Course, options: Options, out: &mut dyn Write) -> Result<bool, String> {
+    if options.program.is_empty() {
+        return Err(USAGE.to_owned());
+    }
+    let text = |e: io::Error| e.to_string();
+    let settings = trial::Settings {
+        seed: options.seed,
+        count: options.count,
+        keep: options.keep.as_deref(),
+    };
+    let mut program = trial::Outside::new(options.program).map_err(text)?;
+    let differences = trial::compare(course, &settings, &mut program, out).map_err(text)?;
+    Ok(differences == 0)
 }
 
 fn read(file: &str) -> Result<Vec<u8>, String> {

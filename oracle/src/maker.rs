@@ -5,6 +5,7 @@
 //! depends on the seed and its number only.
 
 pub mod anything;
+pub mod convertible;
 mod cuts;
 mod damage;
 mod devices;
@@ -140,7 +141,7 @@ mod tests {
         assert_eq!(sum, JOURNALS_OF_SEED_1);
     }
 
-    const JOURNALS_OF_SEED_1: u64 = 5_707_963_455_711_599_394;
+    const JOURNALS_OF_SEED_1: u64 = 15_980_809_033_049_235_850;
 
     #[test]
     fn all_come_in_their_turn() {

@@ -1,8 +1,11 @@
 //! Chooses a few small journals that together show what is easily missed, to
 //! be kept with their transcripts.
 
+use crate::journal::Version;
 use crate::maker;
-use crate::situations::{Creditor, Next, Seeder, Situation, Situation::*, Wait, Worth};
+use crate::situations::{
+    Creditor, Next, Seeder, Situation, Situation::*, Wait, Worth, BORDER_DEVICES, BORDER_REFUSALS,
+};
 use crate::watch::Shown;
 
 /// What a kept journal is to show.
@@ -87,11 +90,11 @@ fn wishes() -> Vec<Wish> {
         Wish::new(
             "devices 224 to 255 refused in between, devices 0 to 15 done, their fourth events earn",
             &[
-                (DeviceRefused, Is(224)),
-                (DeviceRefused, Is(255)),
-                (RefusedDoesNotCount, Any),
-                (EarnsFromTheFourthOn, Is(0)),
-                (EarnsFromTheFourthOn, Is(15)),
+                (DeviceRefused(Version::One), Is(224)),
+                (DeviceRefused(Version::One), Is(255)),
+                (RefusedDoesNotCount(Version::One), Any),
+                (EarnsFromTheFourthOn(Version::One), Is(0)),
+                (EarnsFromTheFourthOn(Version::One), Is(15)),
             ],
         ),
         Wish::new(
@@ -117,6 +120,7 @@ fn wishes() -> Vec<Wish> {
     ]);
     wishes.extend(new_devices());
     wishes.extend(worths());
+    wishes.extend(versions());
     wishes
 }
 
@@ -132,7 +136,7 @@ fn new_devices() -> [Wish; 5] {
                 &nothing[..],
                 &[
                     (RepeatedDoesNotCount, Any),
-                    (EarnsFromTheFourthOn, Is(0)),
+                    (EarnsFromTheFourthOn(Version::One), Is(0)),
                     (KnownDeviceEarns, Is(5)),
                 ],
             ]
@@ -187,6 +191,63 @@ fn worths() -> [Wish; 4] {
     ]
 }
 
+/// Those of the two versions and their devices.
+fn versions() -> [Wish; 8] {
+    use Value::{Any, Is};
+    let (one, two) = (Version::One, Version::Two);
+    let borders = BORDER_DEVICES.map(|device| (EarnsFromTheFourthOn(two), Is(device)));
+    let refusals = BORDER_REFUSALS.map(|device| (DeviceRefused(two), Is(device)));
+    [
+        Wish::new(
+            "version 1: device 15 is done, devices 16 to 31 are refused",
+            &[
+                (DeviceDone(one), Is(15)),
+                (DeviceRefused(one), Is(16)),
+                (DeviceRefused(one), Is(31)),
+            ],
+        ),
+        Wish::new(
+            "version 1: device 255 is refused, and the version ends well",
+            &[(DeviceRefused(one), Is(255)), (EndIn(one), Is(0))],
+        ),
+        Wish::new(
+            "version 2: devices at the borders earn from their fourth events on, \
+             numbers from 1,024 on are refused and count for none of them",
+            &[
+                &borders[..],
+                &refusals,
+                &[
+                    (RefusedDoesNotCount(two), Any),
+                    (OtherDeviceDoesNotCount, Is(16)),
+                    (OtherDeviceDoesNotCount, Is(256)),
+                    (LastValueOfDevice0Kept, Is(256)),
+                ],
+            ]
+            .concat(),
+        ),
+        Wish::new(
+            "version 2: breaks off before the device of an event",
+            &[(CutIn(two, 1), Is(5))],
+        ),
+        Wish::new(
+            "version 2: breaks off between the two bytes of the device",
+            &[(CutIn(two, 1), Is(6))],
+        ),
+        Wish::new(
+            "version 2: breaks off a byte before the end of an event, where version 1 has it whole",
+            &[(CutIn(two, 1), Is(18))],
+        ),
+        Wish::new(
+            "a header of version 2, whole and with nothing behind it",
+            &[(HeaderRight(two), Is(53))],
+        ),
+        Wish::new(
+            "a header cut short, of version 513",
+            &[(VersionWrong, Is(513))],
+        ),
+    ]
+}
+
 /// The smallest journal of a run for each wish.
 pub fn pick(seed: u64, count: u64) -> Result<Vec<Picked>, String> {
     let mut journals: Vec<Vec<u8>> = (1..=count).map(|n| maker::journal(seed, n)).collect();
@@ -223,7 +284,7 @@ mod tests {
             assert!(text.ends_with(&format!("end {ending}\n")), "{}", one.text);
         }
         let bytes: usize = picked.iter().map(|one| one.journal.len()).sum();
-        assert!(bytes < 12_000, "{bytes}");
+        assert!(bytes < 15_000, "{bytes}");
     }
 
     #[test]

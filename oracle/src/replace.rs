@@ -27,7 +27,7 @@ pub fn replace(files: &[(&Path, &[u8])]) -> io::Result<()> {
 
 fn beside(file: &Path) -> PathBuf {
     let mut name = file.as_os_str().to_owned();
-    name.push(format!(".{}.new", std::process::id()));
+    name.push(".new");
     name.into()
 }
 

@@ -3,6 +3,7 @@
 use std::fmt;
 
 use self::Situation::*;
+use crate::journal::Version;
 
 /// What seeded a keeper for the first time.
 #[derive(Clone, Copy, Debug, PartialEq, Eq, PartialOrd, Ord)]
@@ -65,6 +66,10 @@ pub enum Worth {
 pub enum Situation {
     Answer(u8),
     End(u8),
+    /// By the answer, and by the number that ends the replay behind a good
+    /// header.
+    AnswerIn(Version),
+    EndIn(Version),
     /// A generator read while the key is still that of the first seeding, with
     /// input enough for another, and whether the clock went through zero.
     FirstSeeded(Seeder, Wait, bool),
@@ -78,11 +83,14 @@ pub enum Situation {
     /// By the tally of the spill by time before it.
     SpillByNumberAfterTime,
     SpillByNumberAfterRunningBack,
-    KindWhole,
+    KindWhole(Version),
+    /// A record of a kind, by how many of its bytes are there.
+    CutIn(Version, u8),
     UnknownKindAlone,
     UnknownKindFollowed,
-    DeviceDone,
-    DeviceRefused,
+    /// By the device; so is the next.
+    DeviceDone(Version),
+    DeviceRefused(Version),
     /// By which of its device's events it is. It is worth something.
     NewDeviceEarnsNothing,
     /// By the bits that the difference with a clock of zero is worth.
@@ -90,13 +98,18 @@ pub enum Situation {
     /// By which of its device's events it is.
     KnownDeviceEarns,
     /// By the device: its third event, worth something, earned nothing.
-    EarnsFromTheFourthOn,
+    EarnsFromTheFourthOn(Version),
+    /// By how far its number lies from that of another device, of which an event
+    /// had been kept. The third, worth something, earns nothing all the same.
+    OtherDeviceDoesNotCount,
+    /// By the device, which is another than 0.
+    LastValueOfDevice0Kept,
     /// By how many of device 0's events had come before the repeated one. The
     /// third, worth something, earns nothing all the same.
     RepeatedDoesNotCount,
-    /// The same, after a number over 15 was refused that has its low four bits
-    /// in common with the device.
-    RefusedDoesNotCount,
+    /// The same, after a number past the last device was refused that has its low
+    /// bits in common with the device: as many bits as devices need.
+    RefusedDoesNotCount(Version),
     /// By which of the first three is worth nothing. The fourth earns.
     WorthNothingCounts,
     /// Up to the fourth event of each.
@@ -117,8 +130,9 @@ pub enum Situation {
     RefusedAfterAdding,
     /// By the kind, of those that never credit. The call before it added units.
     OtherAfterAdding,
-    /// By the length; so are the next two.
-    HeaderRight,
+    /// By the length; so are the next two. One that is cut before it tells its
+    /// version is right for either.
+    HeaderRight(Version),
     HeaderLetters,
     HeaderVersion,
     /// By the letter's place, from 1.
@@ -148,12 +162,37 @@ const CREDITS: [(Creditor, Worth); 12] = [
     (Creditor::BlockingRead, Worth::SeveralTurns),
 ];
 
+/// Devices of version 2 whose events come in every run, in pairs that lie 1, 16,
+/// 256 and 512 apart.
+pub const BORDER_DEVICES: [u32; 12] = [0, 1, 15, 16, 17, 255, 256, 257, 511, 512, 1_022, 1_023];
+
+/// Numbers of version 2 that no device has and that come in every run. Cut to ten
+/// bits or to eight, most of them are one of those above.
+pub const BORDER_REFUSALS: [u32; 12] = [
+    1_024, 1_025, 1_039, 1_040, 1_279, 1_280, 2_047, 2_048, 32_767, 32_768, 65_280, 65_535,
+];
+
+/// The bytes that are there of a record which is cut in its fields, or behind them
+/// where it has bytes of its own.
+fn cuts(version: Version, kind: u8) -> Vec<u32> {
+    let last = match kind {
+        1 => 16 + version.device_bytes() as u32,
+        2 => 24,
+        3 => 7,
+        4 => 11,
+        _ => 6,
+    };
+    (1..=last).collect()
+}
+
 impl Situation {
     /// All of them, in the order in which they are told.
     pub fn all() -> Vec<Situation> {
         let mut all = Vec::new();
         all.extend([0, 1, 2, 3, 4, 5, 7].map(Answer));
         all.extend([0, 3, 8, 9, 10, 11, 12].map(End));
+        all.extend(Version::ALL.map(AnswerIn));
+        all.extend(Version::ALL.map(EndIn));
         for seeder in [Seeder::Event, Seeder::Interrupt, Seeder::Seed] {
             for wait in [Wait::NotDue, Wait::Due, Wait::RanBack] {
                 all.extend([false, true].map(|past_zero| FirstSeeded(seeder, wait, past_zero)));
@@ -167,17 +206,27 @@ impl Situation {
             SpillByTimePastZero,
             SpillByNumberAfterTime,
             SpillByNumberAfterRunningBack,
-            KindWhole,
-            UnknownKindAlone,
-            UnknownKindFollowed,
-            DeviceDone,
-            DeviceRefused,
+        ]);
+        all.extend(Version::ALL.map(KindWhole));
+        // All records of version 2, and the one that is another in version 1.
+        all.push(CutIn(Version::One, 1));
+        all.extend((1..=6).map(|kind| CutIn(Version::Two, kind)));
+        all.extend([UnknownKindAlone, UnknownKindFollowed]);
+        all.extend(Version::ALL.map(DeviceDone));
+        all.extend(Version::ALL.map(DeviceRefused));
+        all.extend([
             NewDeviceEarnsNothing,
             FirstClockEarnsNothing,
             KnownDeviceEarns,
-            EarnsFromTheFourthOn,
+        ]);
+        all.extend(Version::ALL.map(EarnsFromTheFourthOn));
+        all.extend([
+            OtherDeviceDoesNotCount,
+            LastValueOfDevice0Kept,
             RepeatedDoesNotCount,
-            RefusedDoesNotCount,
+        ]);
+        all.extend(Version::ALL.map(RefusedDoesNotCount));
+        all.extend([
             WorthNothingCounts,
             TwoDevicesInTurn,
             NewDeviceDoesNotSeed,
@@ -189,7 +238,8 @@ impl Situation {
         all.extend([
             RefusedAfterAdding,
             OtherAfterAdding,
-            HeaderRight,
+            HeaderRight(Version::One),
+            HeaderRight(Version::Two),
             HeaderLetters,
             HeaderVersion,
             OneLetterWrong,
@@ -206,12 +256,20 @@ impl Situation {
     pub fn values(self) -> Vec<u32> {
         match self {
             SpillByTime | SpillByNumberAfterTime => (1..=63).collect(),
-            KindWhole => (1..=6).collect(),
+            AnswerIn(_) => vec![0, 1, 2, 3, 4, 5, 7],
+            EndIn(_) => vec![0, 3, 10, 11],
+            KindWhole(_) => (1..=6).collect(),
+            CutIn(version, kind) => cuts(version, kind),
             UnknownKindAlone | UnknownKindFollowed => {
                 (0..=255).filter(|kind| !(1..=6).contains(kind)).collect()
             }
-            DeviceDone | EarnsFromTheFourthOn => (0..=15).collect(),
-            DeviceRefused => (16..=255).collect(),
+            DeviceDone(version) => (0..version.devices()).collect(),
+            DeviceRefused(Version::One) => (16..=255).collect(),
+            DeviceRefused(Version::Two) => BORDER_REFUSALS.to_vec(),
+            EarnsFromTheFourthOn(Version::One) => (0..=15).collect(),
+            EarnsFromTheFourthOn(Version::Two) => BORDER_DEVICES.to_vec(),
+            OtherDeviceDoesNotCount => vec![1, 16, 256, 512],
+            LastValueOfDevice0Kept => vec![16, 256, 512, 1_023],
             NewDeviceEarnsNothing | WorthNothingCounts | NewDeviceDoesNotSeed => (1..=3).collect(),
             FirstClockEarnsNothing => (1..=11).collect(),
             KnownDeviceEarns | KnownDeviceSeeds => vec![4, 5],
@@ -220,11 +278,11 @@ impl Situation {
             Credit(Creditor::BlockingRead, Worth::SeveralTurns) => vec![2],
             RefusedAfterAdding => vec![1, 2, 3, 4, 5, 7],
             OtherAfterAdding => vec![3, 5],
-            HeaderRight => (0..=53).collect(),
+            HeaderRight(_) => (0..=53).collect(),
             HeaderLetters => (1..=53).collect(),
             HeaderVersion => (4..=53).collect(),
             OneLetterWrong | OneLetterLower => (1..=3).collect(),
-            VersionWrong => vec![0, 2, 255, 256, 257, 65_535],
+            VersionWrong => vec![0, 3, 255, 256, 257, 258, 512, 513, 65_535],
             _ => vec![0],
         }
     }
@@ -275,6 +333,47 @@ impl fmt::Display for Situation {
                     seeder.name()
                 );
             }
+            AnswerIn(version) => return write!(f, "answers in version {}", version.number()),
+            EndIn(version) => {
+                return write!(f, "ends behind a header of version {}", version.number())
+            }
+            KindWhole(version) => {
+                return write!(f, "kinds read whole in version {}", version.number())
+            }
+            CutIn(version, kind) => {
+                let version = version.number();
+                return write!(
+                    f,
+                    "a record of kind {kind} cut after each byte in version {version}"
+                );
+            }
+            DeviceDone(version) => {
+                return write!(f, "devices done in version {}", version.number())
+            }
+            DeviceRefused(version) => {
+                return write!(f, "devices refused in version {}", version.number())
+            }
+            EarnsFromTheFourthOn(version) => {
+                let which = match version {
+                    Version::One => "of each device in version 1",
+                    Version::Two => "of devices at borders in version 2",
+                };
+                return write!(f, "event 3 earns nothing and event 4 earns, {which}");
+            }
+            RefusedDoesNotCount(version) => {
+                let version = version.number();
+                return write!(
+                    f,
+                    "event 3 earns nothing, after a like number was refused in version {version}"
+                );
+            }
+            HeaderRight(version) => {
+                let version = version.number();
+                return write!(
+                    f,
+                    "header of version {version} right so far, of each length"
+                );
+            }
             NoSpillAt1000 => "no spill 1,000 ticks after the last",
             SpillAt1001 => "spill by time 1,001 ticks after the last",
             SpillByTime => "spill by time, at each tally",
@@ -283,17 +382,18 @@ impl fmt::Display for Situation {
             SpillByNumberAfterRunningBack => {
                 "spill by number, the clock ran back since one by time"
             }
-            KindWhole => "kinds read whole",
             UnknownKindAlone => "unknown kinds, alone",
             UnknownKindFollowed => "unknown kinds, with bytes after them",
-            DeviceDone => "devices done",
-            DeviceRefused => "devices refused",
             NewDeviceEarnsNothing => "events 1 to 3 of a device, worth something, earn nothing",
             FirstClockEarnsNothing => "event 1 at a clock worth 1 to 11 bits earns nothing",
             KnownDeviceEarns => "events 4 and 5 of a device earn",
-            EarnsFromTheFourthOn => "event 3 earns nothing and event 4 earns, of each device",
             RepeatedDoesNotCount => "event 3 earns nothing, after a repeated one behind 0 to 2",
-            RefusedDoesNotCount => "event 3 earns nothing, after a like number was refused",
+            OtherDeviceDoesNotCount => {
+                "event 3 earns nothing, after one of a device 1, 16, 256 or 512 away was kept"
+            }
+            LastValueOfDevice0Kept => {
+                "event kept with the last value of device 0, of devices 16, 256, 512, 1,023"
+            }
             WorthNothingCounts => "event 4 earns, after event 1, 2 or 3 was worth nothing",
             TwoDevicesInTurn => "two new devices in turn, up to event 4 of each",
             NewDeviceDoesNotSeed => "events 1 to 3 of a device, worth enough to seed, do not",
@@ -303,7 +403,6 @@ impl fmt::Display for Situation {
             NoTransfer(false) => "a blocking read adds nothing, the input pool has too little",
             RefusedAfterAdding => "refused with each number, right after a call that adds",
             OtherAfterAdding => "a write and a generator read, right after a call that adds",
-            HeaderRight => "header right so far, of each length",
             HeaderLetters => "header with wrong letters, of each length",
             HeaderVersion => "header with a wrong version, of each length",
             OneLetterWrong => "header with one wrong letter, each of them",
@@ -311,7 +410,7 @@ impl fmt::Display for Situation {
             AllLettersLower => "header with all letters in lower case",
             LettersBeforeVersion(true) => "header with wrong letters and the right version",
             LettersBeforeVersion(false) => "header with wrong letters and a wrong version",
-            VersionWrong => "header of versions 0, 2, 255, 256, 257, 65,535",
+            VersionWrong => "header of versions 0, 3, 255 to 258, 512, 513, 65,535",
         };
         f.write_str(text)
     }

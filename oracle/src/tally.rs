@@ -110,7 +110,8 @@ impl fmt::Display for Cost {
 #[cfg(test)]
 mod tests {
     use super::*;
-    use crate::{journal, maker};
+    use crate::journal::{self, Version};
+    use crate::maker;
 
     fn told(journals: &[Vec<u8>]) -> (bool, String) {
         let mut out = Vec::new();
@@ -173,8 +174,9 @@ mod tests {
 
     #[test]
     fn the_times_of_several_values_are_told_by_the_least_and_the_most() {
-        let mut journal = journal::header(&[0; 48]);
-        let kinds = |journal: &[u8]| how_often(&Shown::by(journal), Situation::KindWhole);
+        let mut journal = journal::header(Version::One, &[0; 48]);
+        let situation = Situation::KindWhole(Version::One);
+        let kinds = |journal: &[u8]| how_often(&Shown::by(journal), situation);
         let each = [
             vec![1; 18],
             vec![2; 25],

@@ -1,12 +1,18 @@
 //! The replay of a journal, as text.
 
 use crate::balance::{self, Counts};
-use crate::journal::{self, Record};
-use crate::keeper::{Answer, Keeper, DONE};
+use crate::journal::{self, Opened, Record, Version};
+use crate::keeper::{Answer, Keeper, DONE, NO_DEVICE};
 
-/// Makes the call that a record stands for. Gives the answer and the bytes
-/// that were delivered.
-pub fn perform(keeper: &mut Keeper, record: &Record) -> (Answer, Vec<u8>) {
+/// Makes the call that a record of a journal stands for. Gives the answer and
+/// the bytes that were delivered. A device that its version does not have is
+/// refused before the keeper hears of it.
+pub fn perform(version: Version, keeper: &mut Keeper, record: &Record) -> (Answer, Vec<u8>) {
+    if let Record::Device { device, .. } = record {
+        if *device >= version.devices() {
+            return (Answer::refusal(NO_DEVICE), Vec::new());
+        }
+    }
     let mut room = match record {
         Record::Generator { length, .. } | Record::Blocking { length, .. } => {
             vec![0; usize::from(*length)]
@@ -18,9 +24,9 @@ pub fn perform(keeper: &mut Keeper, record: &Record) -> (Answer, Vec<u8>) {
     (answer, room)
 }
 
-/// The same with the caller's own room, whose length is the read's. Whatever is
-/// made, replayed or traced comes by here, so this is where the counts are
-/// checked.
+/// The call alone, with the caller's own room, whose length is the read's.
+/// Whatever is made, replayed or traced comes by here, so this is where the
+/// counts are checked.
 pub fn perform_into(keeper: &mut Keeper, record: &Record, room: &mut [u8]) -> Answer {
     let before = Counts::of(keeper);
     let answer = call(keeper, record, room);
@@ -51,6 +57,8 @@ fn call(keeper: &mut Keeper, record: &Record, room: &mut [u8]) -> Answer {
 
 /// One record of a replay, with what it brought about.
 pub struct Step<'a> {
+    /// The journal's.
+    pub version: Version,
     pub record: &'a Record<'a>,
     pub answer: Answer,
     /// What a read delivered.
@@ -62,6 +70,9 @@ pub struct Step<'a> {
 /// How a replay ended.
 pub struct Ending<'a> {
     pub number: u8,
+    /// The journal's version and the keeper as it was left; none where the
+    /// header ended it.
+    pub left: Option<(Version, Keeper)>,
     /// The journal from the header or the record on that ended the replay;
     /// nothing where every record was replayed.
     pub rest: &'a [u8],
@@ -69,11 +80,16 @@ pub struct Ending<'a> {
 
 /// Replays a journal and shows each record once it is done.
 pub fn replay<'a>(journal: &'a [u8], show: &mut dyn FnMut(Step)) -> Ending<'a> {
-    let (start, mut records) = match journal::open(journal) {
+    let Opened {
+        version,
+        start,
+        mut records,
+    } = match journal::open(journal) {
         Ok(opened) => opened,
         Err(number) => {
             return Ending {
                 number,
+                left: None,
                 rest: journal,
             }
         }
@@ -81,13 +97,19 @@ pub fn replay<'a>(journal: &'a [u8], show: &mut dyn FnMut(Step)) -> Ending<'a> {
     let mut keeper = Keeper::make(start).expect("a header that opens holds a whole start");
     loop {
         let rest = records.rest();
-        let record = match records.next() {
-            Some(Ok(record)) => record,
-            Some(Err(number)) => return Ending { number, rest },
-            None => return Ending { number: DONE, rest },
+        let record = match records.next().unwrap_or(Err(DONE)) {
+            Ok(record) => record,
+            Err(number) => {
+                return Ending {
+                    number,
+                    left: Some((version, keeper)),
+                    rest,
+                }
+            }
         };
-        let (answer, bytes) = perform(&mut keeper, &record);
+        let (answer, bytes) = perform(version, &mut keeper, &record);
         show(Step {
+            version,
             record: &record,
             answer,
             bytes: &bytes,
@@ -98,10 +120,15 @@ pub fn replay<'a>(journal: &'a [u8], show: &mut dyn FnMut(Step)) -> Ending<'a> {
 
 /// The whole transcript of a journal, its last line included.
 pub fn transcript(journal: &[u8]) -> String {
+    transcript_and_keeper(journal).0
+}
+
+/// The transcript, and the keeper that the replay leaves, if it made one.
+pub fn transcript_and_keeper(journal: &[u8]) -> (String, Option<Keeper>) {
     let mut out = String::new();
     let ending = replay(journal, &mut |step| out += &line(&step));
     out += &format!("end {}\n", ending.number);
-    out
+    (out, ending.left.map(|(_, keeper)| keeper))
 }
 
 fn line(step: &Step) -> String {
@@ -134,40 +161,56 @@ mod tests {
     use super::*;
     use std::borrow::Cow;
 
-    fn journal(records: &[Record]) -> Vec<u8> {
-        let mut out = journal::header(&[0; 48]);
+    fn journal(version: Version, records: &[Record]) -> Vec<u8> {
+        let mut out = journal::header(version, &[0; 48]);
         for record in records {
-            record.write(&mut out);
+            record.write(version, &mut out);
         }
         out
     }
 
+    fn event(device: u32, now: u32) -> Record<'static> {
+        Record::Device {
+            now,
+            device,
+            stamp: 5,
+            value: now,
+        }
+    }
+
     #[test]
-    fn the_two_line_transcript() {
-        let journal = journal(&[Record::Generator { now: 0, length: 4 }]);
-        assert_eq!(transcript(&journal), "2 0 0 0 0 0 0\nend 0\n");
+    fn the_two_line_transcript_in_both_versions() {
+        for version in Version::ALL {
+            let journal = journal(version, &[Record::Generator { now: 0, length: 4 }]);
+            assert_eq!(transcript(&journal), "2 0 0 0 0 0 0\nend 0\n");
+        }
     }
 
     #[test]
     fn a_bad_header_gives_one_line() {
         assert_eq!(transcript(b""), "end 8\n");
+        assert_eq!(transcript(b"NKJ\x03\x00"), "end 9\n");
+        assert_eq!(transcript(b"NKJ\x02\x00"), "end 10\n");
         assert_eq!(transcript(&[b'N'; 61_441]), "end 12\n");
     }
 
     #[test]
     fn p10_and_p11_as_a_transcript() {
-        let journal = journal(&[
-            Record::Seed {
-                now: 0,
-                credit: 4_096,
-                bytes: Cow::Owned(vec![1; 512]),
-            },
-            Record::Blocking { now: 0, length: 16 },
-            Record::Generator {
-                now: 0,
-                length: 4_097,
-            },
-        ]);
+        let journal = journal(
+            Version::One,
+            &[
+                Record::Seed {
+                    now: 0,
+                    credit: 4_096,
+                    bytes: Cow::Owned(vec![1; 512]),
+                },
+                Record::Blocking { now: 0, length: 16 },
+                Record::Generator {
+                    now: 0,
+                    length: 4_097,
+                },
+            ],
+        );
         let text = transcript(&journal);
         let lines: Vec<&str> = text.lines().collect();
         assert_eq!(lines.len(), 4);
@@ -181,8 +224,57 @@ mod tests {
 
     #[test]
     fn a_record_that_ends_the_replay_has_no_line() {
-        let mut journal = journal(&[Record::Blocking { now: 0, length: 1 }]);
-        journal.push(9);
-        assert_eq!(transcript(&journal), "1 0 0 0 0 0 0\nend 11\n");
+        for version in Version::ALL {
+            let mut journal = journal(version, &[Record::Blocking { now: 0, length: 1 }]);
+            journal.push(9);
+            assert_eq!(transcript(&journal), "1 0 0 0 0 0 0\nend 11\n");
+        }
+    }
+
+    /// The answers to events of these devices.
+    fn answers(version: Version, devices: &[u32]) -> Vec<u8> {
+        let records: Vec<Record> = devices.iter().map(|device| event(*device, 9)).collect();
+        let mut answers = Vec::new();
+        replay(&journal(version, &records), &mut |step| {
+            answers.push(step.answer.number);
+        });
+        answers
+    }
+
+    #[test]
+    fn devices_at_the_borders_of_each_version() {
+        assert_eq!(answers(Version::One, &[0, 15, 16, 255]), [0, 0, 4, 4]);
+        let devices = [0, 15, 16, 255, 256, 1_023, 1_024, 65_535];
+        let expected = [0, 0, 0, 0, 0, 0, 4, 4];
+        assert_eq!(answers(Version::Two, &devices), expected);
+    }
+
+    #[test]
+    fn a_refused_device_leaves_no_mark() {
+        for (version, refused) in [
+            (Version::One, &[16, 17, 128, 255][..]),
+            (Version::Two, &[1_024, 1_025, 65_535]),
+        ] {
+            let records: Vec<Record> = refused.iter().map(|device| event(*device, 9)).collect();
+            let mut keepers = Vec::new();
+            replay(&journal(version, &records), &mut |step| {
+                assert_eq!(step.answer, Answer::refusal(NO_DEVICE));
+                keepers.push(step.keeper.clone());
+            });
+            let fresh = Keeper::make(&[0; 48]).unwrap();
+            assert_eq!(keepers, vec![fresh; refused.len()]);
+        }
+    }
+
+    #[test]
+    fn the_same_records_have_the_same_transcript_in_both_versions() {
+        let mut records: Vec<Record> = (0..16)
+            .flat_map(|device| [9, 80, 300, 900, 70].map(|now| event(device, now)))
+            .collect();
+        records.push(Record::Blocking { now: 0, length: 9 });
+        records.push(Record::Generator { now: 0, length: 9 });
+        let [one, two] = Version::ALL.map(|version| transcript(&journal(version, &records)));
+        assert_eq!(one, two);
+        assert!(one.lines().any(|line| line.len() > 30));
     }
 }

@@ -10,8 +10,8 @@ use self::new_devices::NewDevices;
 use self::worths::Worths;
 
 use crate::credits::clock_difference;
-use crate::journal::{Record, HEADER, MARK, UNKNOWN_KIND, VERSION};
-use crate::keeper::{Keeper, Timer, DEVICES, DONE, NO_DEVICE, REPEATED};
+use crate::journal::{Record, Version, CUT_SHORT, HEADER, MARK, UNKNOWN_KIND};
+use crate::keeper::{Keeper, Timer, DONE, NO_DEVICE, REPEATED};
 use crate::situations::{Next, Seeder, Situation, Situation::*, Wait};
 use crate::transcript::{replay, Ending, Step};
 
@@ -53,11 +53,13 @@ pub struct Fields {
     blocking_count: u32,
     tally: u32,
     last_spill: u32,
-    timers: [Timer; DEVICES],
+    last_value: u32,
+    /// Of the device that the record tells of.
+    timer: Timer,
 }
 
 impl Fields {
-    fn of(keeper: &Keeper) -> Fields {
+    fn of(keeper: &Keeper, record: &Record) -> Fields {
         Fields {
             seeded: keeper.seeded,
             seeding_clock: keeper.seeding_clock,
@@ -65,8 +67,23 @@ impl Fields {
             blocking_count: keeper.blocking.count,
             tally: keeper.tally,
             last_spill: keeper.last_spill,
-            timers: keeper.timers,
+            last_value: keeper.last_value,
+            timer: timer(keeper, record),
         }
+    }
+}
+
+fn timer(keeper: &Keeper, record: &Record) -> Timer {
+    let device = device(record);
+    let timer = device.and_then(|device| keeper.timers.get(device as usize));
+    timer.copied().unwrap_or_default()
+}
+
+/// The device of an event.
+fn device(record: &Record) -> Option<u32> {
+    match record {
+        Record::Device { device, .. } => Some(*device),
+        _ => None,
     }
 }
 
@@ -83,6 +100,8 @@ struct Watch {
     shown: Shown,
     /// The keeper before the record that is looked at.
     before: Fields,
+    /// The timers of the devices that came so far, which are few of them all.
+    timers: BTreeMap<u32, Timer>,
     /// What seeded the keeper, for as long as no reseed has followed.
     seeder: Option<Seeder>,
     /// Whether a seed of 0 bits came that had bytes and met a count of 1,024
@@ -111,15 +130,24 @@ fn past_zero(now: u32, then: u32, ticks: i64) -> bool {
 
 impl Watch {
     fn step(&mut self, step: &Step) {
-        let after = Fields::of(step.keeper);
+        let after = Fields::of(step.keeper, step.record);
+        let version = step.version;
+        let device = device(step.record);
+        let timer = device.and_then(|device| self.timers.get(&device));
+        self.before.timer = timer.copied().unwrap_or_default();
         self.shown.see(Answer(step.answer.number), 0);
-        self.shown.see(KindWhole, u32::from(step.record.kind()));
+        self.shown
+            .see(AnswerIn(version), u32::from(step.answer.number));
+        self.shown
+            .see(KindWhole(version), u32::from(step.record.kind()));
         match step.record {
-            Record::Device { now, device, .. } => match step.answer.number {
-                DONE => self.event(*device, *now, &after),
+            Record::Device {
+                now, device, value, ..
+            } => match step.answer.number {
+                DONE => self.event(version, *device, *now, *value, &after),
                 NO_DEVICE => {
-                    self.shown.see(DeviceRefused, u32::from(*device));
-                    self.new_devices.refused(*device);
+                    self.shown.see(DeviceRefused(version), *device);
+                    self.new_devices.refused(version, *device);
                 }
                 REPEATED => self.new_devices.repeated(),
                 _ => {}
@@ -145,14 +173,20 @@ impl Watch {
         for (situation, value) in self.worths.step(step, &self.before, &after) {
             self.shown.see(situation, value);
         }
+        if let Some(device) = device {
+            self.timers.insert(device, after.timer);
+        }
         self.before = after;
     }
 
-    fn event(&mut self, device: u8, now: u32, after: &Fields) {
-        self.shown.see(DeviceDone, u32::from(device));
+    fn event(&mut self, version: Version, device: u32, now: u32, value: u32, after: &Fields) {
+        self.shown.see(DeviceDone(version), device);
+        if device != 0 && value == self.before.last_value {
+            self.shown.see(LastValueOfDevice0Kept, device);
+        }
         let shown = self
             .new_devices
-            .kept(usize::from(device), now, &self.before, after);
+            .kept(version, device, now, &self.before, after);
         for (situation, value) in shown {
             self.shown.see(situation, value);
         }
@@ -220,6 +254,15 @@ impl Watch {
 
     fn ending(&mut self, ending: &Ending) {
         self.shown.see(End(ending.number), 0);
+        let version = match &ending.left {
+            Some((version, _)) => *version,
+            None => return,
+        };
+        self.shown.see(EndIn(version), u32::from(ending.number));
+        if ending.number == CUT_SHORT {
+            let there = ending.rest.len() as u32;
+            self.shown.see(CutIn(version, ending.rest[0]), there);
+        }
         if ending.number == UNKNOWN_KIND {
             let alone = ending.rest.len() == 1;
             let situation = match alone {
@@ -239,13 +282,18 @@ impl Watch {
         let (letters, rest) = journal.split_at(journal.len().min(MARK.len()));
         let version = &rest[..rest.len().min(2)];
         let right_letters = MARK.starts_with(letters);
-        let right_version = VERSION.to_le_bytes().starts_with(version);
-        let situation = match (right_letters, right_version) {
-            (true, true) => HeaderRight,
-            (true, false) => HeaderVersion,
-            (false, _) => HeaderLetters,
-        };
-        self.shown.see(situation, length);
+        let right: Vec<Version> = Version::ALL
+            .into_iter()
+            .filter(|right| right.field().starts_with(version))
+            .collect();
+        let right_version = !right.is_empty();
+        match (right_letters, right_version) {
+            (true, true) => right
+                .into_iter()
+                .for_each(|version| self.shown.see(HeaderRight(version), length)),
+            (true, false) => self.shown.see(HeaderVersion, length),
+            (false, _) => self.shown.see(HeaderLetters, length),
+        }
         if !right_letters && letters.len() == MARK.len() {
             self.letters(letters);
         }
@@ -285,19 +333,24 @@ mod tests {
     use crate::journal;
     use std::borrow::Cow;
 
-    fn journal(records: &[Record]) -> Vec<u8> {
-        let mut out = journal::header(&[7; 48]);
+    fn journal(version: Version, records: &[Record]) -> Vec<u8> {
+        let mut out = journal::header(version, &[7; 48]);
         for record in records {
-            record.write(&mut out);
+            record.write(version, &mut out);
         }
         out
     }
 
+    /// What a journal of version 1 shows.
     pub(super) fn shown(records: &[Record]) -> Shown {
-        Shown::by(&journal(records))
+        shown_in(Version::One, records)
     }
 
-    pub(super) fn event(device: u8, now: u32) -> Record<'static> {
+    pub(super) fn shown_in(version: Version, records: &[Record]) -> Shown {
+        Shown::by(&journal(version, records))
+    }
+
+    pub(super) fn event(device: u32, now: u32) -> Record<'static> {
         Record::Device {
             now,
             device,
@@ -507,62 +560,115 @@ mod tests {
     #[test]
     fn kinds() {
         let records = [interrupt(0), blocking(), blocking()];
-        let mut bytes = journal(&records);
-        bytes.push(200);
-        let alone = Shown::by(&bytes);
-        assert_eq!(alone.times(KindWhole, 2), 1);
-        assert_eq!(alone.times(KindWhole, 6), 2);
-        assert_eq!(alone.times(UnknownKindAlone, 200), 1);
-        assert_eq!(alone.times(UnknownKindFollowed, 200), 0);
-        bytes.push(6);
-        let followed = Shown::by(&bytes);
-        assert_eq!(followed.times(UnknownKindAlone, 200), 0);
-        assert_eq!(followed.times(UnknownKindFollowed, 200), 1);
+        for version in Version::ALL {
+            let mut bytes = journal(version, &records);
+            bytes.push(200);
+            let alone = Shown::by(&bytes);
+            assert_eq!(alone.times(KindWhole(version), 2), 1);
+            assert_eq!(alone.times(KindWhole(version), 6), 2);
+            assert_eq!(alone.times(KindWhole(version.other()), 6), 0);
+            assert_eq!(alone.times(UnknownKindAlone, 200), 1);
+            assert_eq!(alone.times(UnknownKindFollowed, 200), 0);
+            assert_eq!(alone.times(EndIn(version), 11), 1);
+            bytes.push(6);
+            let followed = Shown::by(&bytes);
+            assert_eq!(followed.times(UnknownKindAlone, 200), 0);
+            assert_eq!(followed.times(UnknownKindFollowed, 200), 1);
+        }
         // A known kind that is cut is not read whole, and not unknown.
-        let mut bytes = journal(&records);
+        let mut bytes = journal(Version::One, &records);
         bytes.push(1);
         let cut = Shown::by(&bytes);
-        assert_eq!(cut.times(KindWhole, 1), 0);
+        assert_eq!(cut.times(KindWhole(Version::One), 1), 0);
         assert_eq!(cut.times(UnknownKindAlone, 1), 0);
+        assert_eq!(cut.times(CutIn(Version::One, 1), 1), 1);
+    }
+
+    #[test]
+    fn cuts_of_an_event() {
+        for version in Version::ALL {
+            let whole = journal(version, &[event(3, 9)]);
+            let last = whole.len() - HEADER;
+            for there in 0..=last {
+                let shown = Shown::by(&whole[..HEADER + there]);
+                let cut = (1..last).contains(&there);
+                let times = u64::from(cut);
+                assert_eq!(shown.times(CutIn(version, 1), there as u32), times);
+                assert_eq!(shown.times(CutIn(version.other(), 1), there as u32), 0);
+                assert_eq!(shown.times(EndIn(version), 10), times);
+                assert_eq!(shown.times(EndIn(version), 0), 1 - times);
+            }
+            let values = CutIn(version, 1).values();
+            assert_eq!(values, (1..last as u32).collect::<Vec<u32>>());
+        }
     }
 
     #[test]
     fn devices_done_and_refused() {
-        let shown = shown(&[event(15, 0), event(16, 0), event(0, 0), event(0, 9)]);
-        assert_eq!(shown.times(DeviceDone, 15), 1);
-        assert_eq!(shown.times(DeviceRefused, 15), 0);
-        assert_eq!(shown.times(DeviceRefused, 16), 1);
+        let records = [event(15, 0), event(16, 0), event(0, 0), event(0, 9)];
+        let one = shown(&records);
+        let [done, refused] = [DeviceDone(Version::One), DeviceRefused(Version::One)];
+        assert_eq!(one.times(done, 15), 1);
+        assert_eq!(one.times(refused, 15), 0);
+        assert_eq!(one.times(refused, 16), 1);
         // The repeated event counts neither way.
-        assert_eq!(shown.times(DeviceDone, 0), 1);
-        assert_eq!(shown.times(DeviceRefused, 0), 0);
+        assert_eq!(one.times(done, 0), 1);
+        assert_eq!(one.times(refused, 0), 0);
+        assert_eq!(one.times(Answer(7), 0), 1);
+        assert_eq!(one.times(AnswerIn(Version::One), 7), 1);
+
+        let records = [event(16, 0), event(1_023, 0), event(1_024, 0)];
+        let two = shown_in(Version::Two, &records);
+        let [done, refused] = [DeviceDone(Version::Two), DeviceRefused(Version::Two)];
+        assert_eq!(two.times(done, 16), 1);
+        assert_eq!(two.times(done, 1_023), 1);
+        assert_eq!(two.times(refused, 1_024), 1);
+        assert_eq!(two.times(DeviceDone(Version::One), 16), 0);
+        assert_eq!(two.times(AnswerIn(Version::Two), 4), 1);
+        assert_eq!(two.times(AnswerIn(Version::One), 4), 0);
+    }
+
+    #[test]
+    fn the_last_value_of_device_0_on_another() {
+        // Every event here has the same value.
+        let records = [event(256, 1), event(0, 2), event(256, 3), event(0, 4)];
+        let shown = shown_in(Version::Two, &records);
+        assert_eq!(shown.times(LastValueOfDevice0Kept, 256), 1);
+        assert_eq!(shown.times(LastValueOfDevice0Kept, 0), 0);
         assert_eq!(shown.times(Answer(7), 0), 1);
     }
 
     #[test]
     fn headers() {
-        for (bytes, situation, number) in [
-            (&b""[..], HeaderRight, 8),
-            (b"NK", HeaderRight, 8),
-            (b"NKJ\x01", HeaderRight, 10),
-            (b"NKJ\x01\0", HeaderRight, 10),
-            (b"n", HeaderLetters, 8),
-            (b"NKX\x01\0", HeaderLetters, 8),
-            (b"NKJ\x02", HeaderVersion, 10),
-            (b"NKJ\x01\x01", HeaderVersion, 9),
+        let (one, two) = (HeaderRight(Version::One), HeaderRight(Version::Two));
+        for (bytes, situations, number) in [
+            (&b""[..], &[one, two][..], 8),
+            (b"NK", &[one, two], 8),
+            (b"NKJ", &[one, two], 10),
+            (b"NKJ\x01", &[one], 10),
+            (b"NKJ\x01\0", &[one], 10),
+            (b"NKJ\x02", &[two], 10),
+            (b"NKJ\x02\0", &[two], 10),
+            (b"n", &[HeaderLetters], 8),
+            (b"NKX\x01\0", &[HeaderLetters], 8),
+            (b"NKJ\x03", &[HeaderVersion], 10),
+            (b"NKJ\x01\x01", &[HeaderVersion], 9),
+            (b"NKJ\x02\x01", &[HeaderVersion], 9),
         ] {
             let shown = Shown::by(bytes);
-            for other in [HeaderRight, HeaderLetters, HeaderVersion] {
-                let times = u64::from(other == situation);
-                assert_eq!(shown.times(other, bytes.len() as u32), times);
+            for other in [one, two, HeaderLetters, HeaderVersion] {
+                let times = u64::from(situations.contains(&other));
+                assert_eq!(shown.times(other, bytes.len() as u32), times, "{bytes:?}");
             }
             assert_eq!(shown.times(End(number), 0), 1);
         }
         let whole = shown(&[]);
-        assert_eq!(whole.times(HeaderRight, 53), 1);
+        assert_eq!(whole.times(one, 53), 1);
+        assert_eq!(whole.times(two, 53), 0);
         assert_eq!(whole.times(End(0), 0), 1);
         // A record behind it makes it more than a header.
-        assert_eq!(shown(&[read(0)]).times(HeaderRight, 53), 0);
-        assert_eq!(shown(&[read(0)]).times(HeaderRight, 60), 0);
+        assert_eq!(shown(&[read(0)]).times(one, 53), 0);
+        assert_eq!(shown(&[read(0)]).times(one, 60), 0);
     }
 
     #[test]
@@ -590,6 +696,7 @@ mod tests {
             assert_eq!(Shown::by(bytes).times(VersionWrong, version), 1);
         }
         assert_eq!(Shown::by(b"NKJ\x01\0").times(VersionWrong, 1), 0);
+        assert_eq!(Shown::by(b"NKJ\x02\0").times(VersionWrong, 2), 0);
         assert_eq!(Shown::by(b"NKJ\0").times(VersionWrong, 0), 0);
     }
 }

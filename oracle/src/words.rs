@@ -1,8 +1,9 @@
-//! The words `index`, `append` and `look` of the keeper's program: what each
-//! prints and writes, worked out from the bytes of its files.
+//! The words `index`, `append`, `look` and `convert` of the keeper's program:
+//! what each prints and writes, worked out from the bytes of its files.
 
+use crate::convert::convert;
 use crate::index::{self, Form, InFile, Index, Placed, PAST_THE_LAST};
-use crate::journal::{hex, Record};
+use crate::journal::{hex, Record, LARGEST};
 use crate::keeper::DONE;
 
 /// A command line that makes sense.
@@ -10,7 +11,7 @@ use crate::keeper::DONE;
 pub struct Order {
     word: Word,
     /// The names of its files: the journal, the index, and for `append` what is
-    /// to be appended.
+    /// to be appended; for `convert` the journal and where the outcome goes.
     pub files: Vec<String>,
 }
 
@@ -19,6 +20,7 @@ enum Word {
     Index,
     Append,
     Look(Vec<Number>),
+    Convert,
 }
 
 /// What came of an order.
@@ -36,19 +38,22 @@ pub struct Done {
 const JOURNAL: usize = 0;
 const INDEX: usize = 1;
 const MORE: usize = 2;
+/// Of a converted journal, in the place of the index.
+const OUT: usize = 1;
 
 impl Order {
-    /// Whether a word is one of the three.
+    /// Whether a word is one of the four.
     pub fn begins_with(word: &str) -> bool {
-        matches!(word, "index" | "append" | "look")
+        matches!(word, "index" | "append" | "look" | "convert")
     }
 
-    /// Reads a command line whose first word is one of the three. What makes no
+    /// Reads a command line whose first word is one of the four. What makes no
     /// sense is told in one line.
     pub fn read(words: &[String]) -> Result<Order, String> {
         let (word, rest) = words.split_first().ok_or("no word")?;
         let names = match word.as_str() {
             "append" => ["JOURNAL", "INDEX", "MORE"].as_slice(),
+            "convert" => ["JOURNAL", "OUT"].as_slice(),
             _ => ["JOURNAL", "INDEX"].as_slice(),
         };
         let numbered = word == "look";
@@ -61,9 +66,13 @@ impl Order {
             return Err(format!("{word} takes {}{more}", names.join(" ")));
         }
         let (files, numbers) = rest.split_at(names.len());
+        if let Some(at) = files.iter().position(String::is_empty) {
+            return Err(format!("an empty word names no {}", names[at]));
+        }
         let word = match word.as_str() {
             "index" => Word::Index,
             "append" => Word::Append,
+            "convert" => Word::Convert,
             _ => Word::Look(numbers.iter().map(Number::read).collect::<Result<_, _>>()?),
         };
         Ok(Order {
@@ -92,6 +101,10 @@ impl Order {
                 let found = index::look(journal, &kept(), &values);
                 found.map(|found| (lines(numbers, &found), Vec::new()))
             }
+            // A file has room for any outcome.
+            Word::Convert => {
+                convert(journal, LARGEST).map(|outcome| (String::new(), vec![(OUT, outcome)]))
+            }
         };
         let (number, text, written) = match done {
             Ok((text, written)) => (DONE, text, written),
@@ -107,7 +120,7 @@ impl Order {
     /// The names of the files that it reads.
     pub fn given(&self) -> &[String] {
         match self.word {
-            Word::Index => &self.files[..INDEX],
+            Word::Index | Word::Convert => &self.files[..1],
             Word::Append | Word::Look(_) => &self.files,
         }
     }
@@ -198,7 +211,7 @@ fn told(record: &Record) -> String {
 #[cfg(test)]
 mod tests {
     use super::*;
-    use crate::journal;
+    use crate::journal::{self, Version};
     use std::borrow::Cow;
 
     fn order(line: &str) -> Result<Order, String> {
@@ -206,11 +219,11 @@ mod tests {
         Order::read(&words)
     }
 
-    fn one_of_each() -> Vec<u8> {
+    fn one_of_each(version: Version, device: u32) -> Vec<u8> {
         let records = [
             Record::Device {
                 now: 1,
-                device: 2,
+                device,
                 stamp: u64::MAX,
                 value: 3,
             },
@@ -244,11 +257,15 @@ mod tests {
                 length: 65_535,
             },
         ];
-        let mut journal = journal::header(&[0; 48]);
+        let mut journal = journal::header(version, &[0; 48]);
         for record in records {
-            record.write(&mut journal);
+            record.write(version, &mut journal);
         }
         journal
+    }
+
+    fn of_version_1() -> Vec<u8> {
+        one_of_each(Version::One, 2)
     }
 
     /// Makes the index of a journal, and then looks.
@@ -271,16 +288,53 @@ mod tests {
             7 0 142 6 14 65535\n\
             8 18\n\
             end 0\n";
-        let done = look(&one_of_each(), "0 1 2 3 4 5 6 7 8");
+        let done = look(&of_version_1(), "0 1 2 3 4 5 6 7 8");
         assert_eq!((done.text.as_str(), done.number), (expected, 0));
         assert_eq!(done.written, []);
+    }
+
+    #[test]
+    fn lines_of_a_journal_of_version_2() {
+        for device in [2, 255, 256, 1_023, 65_535] {
+            let done = look(&one_of_each(Version::Two, device), "0 1 7");
+            let expected = format!(
+                "0 0 53 1 1 {device} 18446744073709551615 3\n\
+                 1 0 72 2 4 5 6 7\n\
+                 7 0 143 6 14 65535\n\
+                 end 0\n"
+            );
+            assert_eq!(done.text, expected);
+        }
+    }
+
+    #[test]
+    fn a_conversion_writes_its_outcome_alone() {
+        let journal = of_version_1();
+        let convert = |journal: &[u8]| {
+            let order = order("convert j o").unwrap();
+            assert_eq!(order.given(), ["j"]);
+            order.carry_out(&[journal.to_vec()])
+        };
+        let done = convert(&journal);
+        let outcome = one_of_each(Version::Two, 2);
+        assert_eq!((done.text.as_str(), done.number), ("end 0\n", 0));
+        assert_eq!(done.written, [(OUT, outcome.clone())]);
+        // Refused, nothing is.
+        for (journal, text) in [
+            (outcome, "end 9\n"),
+            (one_of_each(Version::One, 16), "end 4\n"),
+            (b"NKJ".to_vec(), "end 10\n"),
+        ] {
+            let done = convert(&journal);
+            assert_eq!((done.text.as_str(), &done.written), (text, &vec![]));
+        }
     }
 
     #[test]
     fn numbers_of_any_size_lose_their_zeros() {
         let large = "340282366920938463463374607431768211456";
         let done = look(
-            &one_of_each(),
+            &of_version_1(),
             &format!("007 000 00{large} 18446744073709551615"),
         );
         let expected = format!(
@@ -295,7 +349,7 @@ mod tests {
 
     #[test]
     fn the_figures_of_an_index() {
-        let journal = one_of_each();
+        let journal = of_version_1();
         let done = order("index j i")
             .unwrap()
             .carry_out(std::slice::from_ref(&journal));
@@ -307,7 +361,7 @@ mod tests {
 
     #[test]
     fn an_appending_writes_both_files_or_none() {
-        let journal = one_of_each();
+        let journal = of_version_1();
         let InFile(index) = InFile::of(&index::fresh(&journal).unwrap());
         let append = |more: &[u8]| {
             let files = [journal.clone(), index.clone(), more.to_vec()];
@@ -332,7 +386,7 @@ mod tests {
             assert_eq!(done.written, []);
             done.text
         };
-        let journal = one_of_each();
+        let journal = of_version_1();
         assert_eq!(refused("index j i", &[b"NKJ"]), "end 10\n");
         assert_eq!(refused("look j i 0", &[&journal, b"NKI"]), "end 16\n");
         let InFile(index) = InFile::of(&index::fresh(&journal).unwrap());
@@ -359,11 +413,23 @@ mod tests {
             "look j i 1 ",
             "look j i \u{663}",
             "look j i 1_0",
+            "convert",
+            "convert j",
+            "convert j o x",
+            // An empty word is no file's name.
+            "index  i",
+            "index j ",
+            "append j  m",
+            "look  i 0",
+            "convert  o",
+            "convert j ",
         ];
         for line in lines {
             let message = order(line).unwrap_err();
             assert_eq!(message.lines().count(), 1, "{line}");
         }
         assert!(order("look j i 0 0").is_ok());
+        // A journal may be converted where it stands.
+        assert!(order("convert j j").is_ok());
     }
 }

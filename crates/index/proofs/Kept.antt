@@ -8,7 +8,7 @@ use borrow.Author.Tests.{eq-eqb, ne-eqb, lt-ltb}
 use lib.Dec.{ltb, eqb}
 use lib.ListN.{length, take, drop, length-append}
 use lib.Seq.{sets, sets-eq, length-take-le, take-append-seam, drop-append-seam, length-sets}
-use Rattle.ledger.specs.Choice.{pick}
+use Rattle.ledger.specs.Choice.{pick, first}
 use Rattle.ledger.specs.Numbers.{tooLong, indexDiffers}
 use Rattle.ledger.proofs.Picks.{pick-by}
 use Rattle.journal.specs.Header.{largest}
@@ -17,7 +17,7 @@ use Rattle.journal.proofs.Sides.{by-same, by-less}
 use Rattle.journal.proofs.GoodHeader.{header-good}
 use Rattle.journal.proofs.Appended.{ends-well}
 use Rattle.index.specs.Summary.{indexOf}
-use Rattle.index.specs.Calls.{endingIn, first, mostNumbers, appendRefused, lookRefused, appended, roomAfter}
+use Rattle.index.specs.Calls.{endingIn, mostNumbers, appendRefused, lookRefused, appended, roomAfter}
 use Rattle.index.specs.declared.summary.Index.{Index}
 use Rattle.index.specs.declared.appending.Appended.{Appended}
 use Rattle.index.proofs.Refusing.{first-of, second-of, third-of, fits-room}

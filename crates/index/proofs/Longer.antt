@@ -8,7 +8,7 @@ use lib.ListN.{length, take, length-append}
 use lib.Seq.{length-take-le, sets}
 use Rattle.ledger.specs.Choice.{pick}
 use Rattle.ledger.specs.Numbers.{journalTooLarge}
-use Rattle.journal.specs.Header.{largest, refusalWithin, headerOf}
+use Rattle.journal.specs.Header.{largest, headerOf, versionOf}
 use Rattle.journal.specs.Layout.{sum}
 use Rattle.journal.specs.Walking.{Walk, walk, walkOf, endingOf}
 use Rattle.journal.specs.Writing.{joined, further, furtherOn}
@@ -48,14 +48,14 @@ worked-out j ix e = let z = ends-with j 0 ix e in sym (rw z at (ap (λ (x : Fres
 
 module _ (j more : List ℕ) (e : endingOf j ≡ 0) (l : length (j ++ more) ≤ largest) where
   -- THE LONGER JOURNAL ends with the number of what was appended
-  pub ends-longer : endingOf (j ++ more) ≡ walk 1 more 0 .number
+  pub ends-longer : endingOf (j ++ more) ≡ walk (versionOf j) more 0 .number
   ends-longer = ap number (appended-alone j more e l)
 
   -- ITS INDEX is the updated one
-  pub index-longer : updated (recordsIn (indexOf j)) (indexOf j) (map (further (length j)) (walk 1 more 0 .entries)) ≡ indexOf (j ++ more)
+  pub index-longer : updated (recordsIn (indexOf j)) (indexOf j) (map (further (length j)) (walk (versionOf j) more 0 .entries)) ≡ indexOf (j ++ more)
   unfolding indexOf
   index-longer =
-      rw (all-records (walkOf j .entries)) (updated-fresh (walkOf j .entries) (map (further (length j)) (walk 1 more 0 .entries)))
+      rw (all-records (walkOf j .entries)) (updated-fresh (walkOf j .entries) (map (further (length j)) (walk (versionOf j) more 0 .entries)))
       ∙ sym (ap (λ (w : Walk). summaryOf (w .entries)) (appended-alone j more e l))
 
 -- ---- what a call answers and leaves
@@ -99,15 +99,17 @@ module _ (room : List ℕ) (len : ℕ) (ix : Index) (more : List ℕ) (whole : l
     together : length (J ++ more) ≤ largest
     together = omega (arith, short, fits, size, length-append J more)
 
-    pub number-longer : endingOf (J ++ more) ≡ walk 1 more 0 .number
-    number-longer = ends-longer J more (ends-with J 0 ix fresh-known) together
+    -- by the version that was found
+    module _ (v : ℕ) (version : v ≡ versionOf J) where
+      pub number-longer : endingOf (J ++ more) ≡ walk v more 0 .number
+      number-longer = rw version (ends-longer J more (ends-with J 0 ix fresh-known) together)
 
-    pub updated-longer : (count : ℕ) → count ≡ sum (ix .kinds) → updated count ix (map (further len) (walk 1 more 0 .entries)) ≡ indexOf (J ++ more)
-    unfolding recordsIn
-    updated-longer count c =
-        let w = worked-out J ix fresh-known in
-        let i = index-longer J more (ends-with J 0 ix fresh-known) together in
-        rw (c, w) (rw size at i)
+      pub updated-longer : (count : ℕ) → count ≡ sum (ix .kinds) → updated count ix (map (further len) (walk v more 0 .entries)) ≡ indexOf (J ++ more)
+      unfolding recordsIn
+      updated-longer count c =
+          let w = worked-out J ix fresh-known in
+          let i = index-longer J more (ends-with J 0 ix fresh-known) together in
+          rw (version, c, w) (rw size at i)
 
 -- room for what comes
 pub roomy-on : (ix : Index) {len count : ℕ} → count ≡ sum (ix .kinds) → Roomy (recordsIn ix) len (ix .kinds) (ix .reads) → Roomy count (len + 0) (ix .kinds) (ix .reads)

@@ -19,21 +19,21 @@ use Rattle.journal.proofs.Sides.{by-less}
 use Rattle.index.specs.Summary.{asks}
 
 -- a kind that is known has fields of six bytes or more
-six : (kind : ℕ) → eqb (length (widths 1 kind)) 0 ≡ false → 6 ≤ sum (widths 1 kind)
+six : (v kind : ℕ) → eqb (length (widths v kind)) 0 ≡ false → 6 ≤ sum (widths v kind)
 unfolding widths sum
-six zero h = let z : _≡_ {A = ℕ} 0 1 = cc in omega arith
-six (suc zero) h = omega arith
-six (suc (suc zero)) h = omega arith
-six (suc (suc (suc zero))) h = omega arith
-six (suc (suc (suc (suc zero)))) h = omega arith
-six (suc (suc (suc (suc (suc zero))))) h = omega arith
-six (suc (suc (suc (suc (suc (suc zero)))))) h = omega arith
-six (suc (suc (suc (suc (suc (suc (suc k))))))) h = let z : _≡_ {A = ℕ} 0 1 = cc in omega arith
+six v zero h = let z : _≡_ {A = ℕ} 0 1 = cc in omega arith
+six v (suc zero) h = omega arith
+six v (suc (suc zero)) h = omega arith
+six v (suc (suc (suc zero))) h = omega arith
+six v (suc (suc (suc (suc zero)))) h = omega arith
+six v (suc (suc (suc (suc (suc zero))))) h = omega arith
+six v (suc (suc (suc (suc (suc (suc zero)))))) h = omega arith
+six v (suc (suc (suc (suc (suc (suc (suc k))))))) h = let z : _≡_ {A = ℕ} 0 1 = cc in omega arith
 
-pub seven : (j : List ℕ) (at : ℕ) (r : Record) (next : ℕ) → readAt 1 j at ≡ One r next → at + 7 ≤ next
-seven j at r next e =
-    let w = stands 1 j at r next e .whole in
-    omega (arith, w .after, six _ (w .known))
+pub seven : (v : ℕ) (j : List ℕ) (at : ℕ) (r : Record) (next : ℕ) → readAt v j at ≡ One r next → at + 7 ≤ next
+seven v j at r next e =
+    let w = stands v j at r next e .whole in
+    omega (arith, w .after, six v _ (w .known))
 
 -- two bytes make less than 65,536
 two : (bs : List ℕ) → ((i : ℕ) → getD bs i 0 < 2 ^ 8) → leNumber (take 2 bs) ≤ 65535
@@ -42,21 +42,21 @@ two [] b = omega arith
 two (x ∷ []) b = omega (arith, b 0)
 two (x ∷ y ∷ bs) b = omega (arith, b 0, b 1)
 
-narrow-kind : (kind : ℕ) (bs : List ℕ) → ((i : ℕ) → getD bs i 0 < 2 ^ 8) → asks (recordOf kind (fieldsIn (widths 1 kind) bs)) ≤ 65535
+narrow-kind : (v kind : ℕ) (bs : List ℕ) → ((i : ℕ) → getD bs i 0 < 2 ^ 8) → asks (recordOf kind (fieldsIn (widths v kind) bs)) ≤ 65535
 unfolding asks recordOf widths fieldsIn
-narrow-kind zero bs b = omega arith
-narrow-kind (suc zero) bs b = omega arith
-narrow-kind (suc (suc zero)) bs b = omega arith
-narrow-kind (suc (suc (suc zero))) bs b = omega arith
-narrow-kind (suc (suc (suc (suc zero)))) bs b = omega arith
-narrow-kind (suc (suc (suc (suc (suc zero))))) bs b = two (drop 4 bs) (λ i. rw (getD-drop 4 bs i 0) (b (4 + i)))
-narrow-kind (suc (suc (suc (suc (suc (suc zero)))))) bs b = two (drop 4 bs) (λ i. rw (getD-drop 4 bs i 0) (b (4 + i)))
-narrow-kind (suc (suc (suc (suc (suc (suc (suc k))))))) bs b = omega arith
+narrow-kind v zero bs b = omega arith
+narrow-kind v (suc zero) bs b = omega arith
+narrow-kind v (suc (suc zero)) bs b = omega arith
+narrow-kind v (suc (suc (suc zero))) bs b = omega arith
+narrow-kind v (suc (suc (suc (suc zero)))) bs b = omega arith
+narrow-kind v (suc (suc (suc (suc (suc zero))))) bs b = two (drop 4 bs) (λ i. rw (getD-drop 4 bs i 0) (b (4 + i)))
+narrow-kind v (suc (suc (suc (suc (suc (suc zero)))))) bs b = two (drop 4 bs) (λ i. rw (getD-drop 4 bs i 0) (b (4 + i)))
+narrow-kind v (suc (suc (suc (suc (suc (suc (suc k))))))) bs b = omega arith
 
-pub narrow : (j : List ℕ) (at : ℕ) (r : Record) (next : ℕ) → ((i : ℕ) → getD j i 0 < 2 ^ 8) → readAt 1 j at ≡ One r next → asks r ≤ 65535
-narrow j at r next b e =
-    let w = stands 1 j at r next e .whole in
-    rw (w .same) (narrow-kind (getD j at 0) (drop (suc at) j) (λ i. rw (getD-drop (suc at) j i 0) (b (suc at + i))))
+pub narrow : (v : ℕ) (j : List ℕ) (at : ℕ) (r : Record) (next : ℕ) → ((i : ℕ) → getD j i 0 < 2 ^ 8) → readAt v j at ≡ One r next → asks r ≤ 65535
+narrow v j at r next b e =
+    let w = stands v j at r next e .whole in
+    rw (w .same) (narrow-kind v (getD j at 0) (drop (suc at) j) (λ i. rw (getD-drop (suc at) j i 0) (b (suc at + i))))
 
 of-six : (r : Record) → (1 ≤ kindOf r) × (kindOf r ≤ 6)
 unfolding kindOf

@@ -7,14 +7,14 @@ use native.Mathlib.Omega.{arith}
 use borrow.Author.Tests.{eq-eqb, ne-eqb, eqb-true, lt-ltb, le-ltb}
 use lib.Dec.{ltb, eqb}
 use lib.ListN.{length, take}
-use Rattle.ledger.specs.Choice.{pick}
+use Rattle.ledger.specs.Choice.{pick, first}
 use Rattle.ledger.specs.Numbers.{journalTooLarge, indexDiffers, tooLong}
 use Rattle.ledger.proofs.Picks.{pick-by}
 use Rattle.journal.specs.Header.{largest}
 use Rattle.journal.specs.Walking.{endingOf}
 use Rattle.journal.proofs.Sides.{by-less, by-same}
 use Rattle.index.specs.Summary.{summaryOf, indexOf, recordsIn}
-use Rattle.index.specs.Calls.{endingIn, freshOf, freshIn, same, sameIndex, agrees, fileAgrees, first, mostNumbers, appendRefused, lookRefused}
+use Rattle.index.specs.Calls.{endingIn, freshOf, freshIn, same, sameIndex, agrees, fileAgrees, mostNumbers, appendRefused, lookRefused}
 use Rattle.index.specs.Filing.{fileOf}
 use Rattle.index.specs.declared.summary.Index.{Index}
 use Rattle.index.specs.declared.fresh.Fresh.{Fresh}

@@ -57,8 +57,8 @@ module _ (j : List ℕ) where
     begins = ap (λ (x : Heading). x .place) (e ∙ heading-good j good)
 
     -- from behind the header on
-    begun : walk 1 j (h .place) ≡ walkOf j
-    begun = ap (walk 1 j) begins ∙ sym (good-walk j good)
+    begun : walk (h .version) j (h .place) ≡ walkOf j
+    begun = ap (λ (x : Heading). walk (x .version) j (x .place)) (e ∙ heading-good j good) ∙ sym (good-walk j good)
 
     pub there : (h .place ≤ length j) × (0 + length j ≤ largest)
     there = let g = header-good j good in (omega (arith, begins, g .there), omega (arith, g .fits))
@@ -66,25 +66,25 @@ module _ (j : List ℕ) where
     pub nothing-yet : Roomy 0 (0 + h .place) (replicate kindsThereAre 0) 0
     nothing-yet = record { short = omega (arith, begins); few = zeros-few kindsThereAre; narrow = omega arith }
 
-    pub walked-bad : (n : ℕ) → n ≡ walk 1 j (h .place) .number → (n ≡ 0 → ⊥) → fresh n (summaryOf []) ≡ freshOf j
+    pub walked-bad : (n : ℕ) → n ≡ walk (h .version) j (h .place) .number → (n ≡ 0 → ⊥) → fresh n (summaryOf []) ≡ freshOf j
     walked-bad n w k = fresh-bad n (w ∙ ap ending begun) k
 
-    module _ (n : ℕ) (w : n ≡ walk 1 j (h .place) .number) (k : n ≡ 0) (ix : Index)
-        (u : ix ≡ updated 0 (index (replicate mostPlaces 0) (replicate kindsThereAre 0) 0) (map (further 0) (walk 1 j (h .place) .entries))) where
+    module _ (n : ℕ) (w : n ≡ walk (h .version) j (h .place) .number) (k : n ≡ 0) (ix : Index)
+        (u : ix ≡ updated 0 (index (replicate mostPlaces 0) (replicate kindsThereAre 0) 0) (map (further 0) (walk (h .version) j (h .place) .entries))) where
       is-fresh : ix ≡ summaryOf (walkOf j .entries)
       is-fresh =
-          u ∙ ap₂ (λ (x : Index) (es : _). updated 0 x es) of-none (no-further (walk 1 j (h .place) .entries) ∙ ap (λ (x : Walk). x .entries) begun) ∙ updated-fresh [] (walkOf j .entries)
+          u ∙ ap₂ (λ (x : Index) (es : _). updated 0 x es) of-none (no-further (walk (h .version) j (h .place) .entries) ∙ ap (λ (x : Walk). x .entries) begun) ∙ updated-fresh [] (walkOf j .entries)
 
       pub walked-good : fresh 0 ix ≡ freshOf j
       unfolding indexOf
       walked-good = ap (fresh 0) is-fresh ∙ fresh-good (sym (ap ending begun) ∙ sym w ∙ k)
 
-      pub still-roomy : (count : ℕ) → count ≡ 0 + length (walk 1 j (h .place) .entries) → Roomy count (0 + length j) (ix .kinds) (ix .reads)
+      pub still-roomy : (count : ℕ) → count ≡ 0 + length (walk (h .version) j (h .place) .entries) → Roomy count (0 + length j) (ix .kinds) (ix .reads)
           → Roomy (recordsIn ix) (length j) (ix .kinds) (ix .reads)
       still-roomy count c r =
           let a = all-records (walkOf j .entries) in
           let b : recordsIn ix ≡ length (walkOf j .entries) = ap recordsIn is-fresh ∙ a in
-          let d : length (walk 1 j (h .place) .entries) ≡ length (walkOf j .entries) = ap (λ (x : Walk). length (x .entries)) begun in
+          let d : length (walk (h .version) j (h .place) .entries) ≡ length (walkOf j .entries) = ap (λ (x : Walk). length (x .entries)) begun in
           let m : recordsIn ix ≡ count = omega (arith, b, c, d) in
           rw m (record { short = omega (arith, r .short); few = r .few; narrow = r .narrow })
 

@@ -6,7 +6,7 @@ use mathlib.Core.List.{List, [], _∷_, _++_, map}
 use lib.ListN.{length, take}
 use lib.Seq.{sets}
 use lib.Dec.{ltb, eqb}
-use Rattle.ledger.specs.Choice.{pick}
+use Rattle.ledger.specs.Choice.{pick, first}
 use Rattle.ledger.specs.Numbers.{tooLong, journalTooLarge, indexDiffers}
 use Rattle.journal.specs.Header.{largest}
 use Rattle.journal.specs.Walking.{endingOf}
@@ -48,11 +48,6 @@ agrees ix room n = sameIndex ix (indexOf (take n room))
 
 unfoldable pub fileAgrees : List ℕ → List ℕ → ℕ → Bool
 fileAgrees file room n = same file (fileOf (indexOf (take n room)))
-
--- the first number that is not 0
-unfoldable pub first : List ℕ → ℕ
-first [] = 0
-first (n ∷ ns) = pick (eqb n 0) (first ns) n
 
 -- WHAT IS REFUSED, in this order: the journal, with the number that it ends with; an index that is not the journal's; the longer journal, with
 -- its number; a 65th record number

@@ -13,6 +13,7 @@ use crate::filing::same_file;
 use crate::fresh::Fresh;
 use crate::fresh::fresh_in;
 use crate::fresh::records;
+use crate::fresh::version_in;
 use crate::same::same_index;
 use crate::summary::Index;
 use crate::summing::add_records;
@@ -46,7 +47,8 @@ fn lay(bytes: &[u8], room: &mut [u8], at: usize)
     }
 }
 
-// Goes over the bytes to append, behind a journal of `len` bytes whose index was worked out, and lays them into the room.
+// Goes over the bytes to append, in the version of the journal before them, which has `len` bytes and whose index was worked out, and lays
+// them into the room.
 fn extend(room: &mut [u8], len: usize, fresh: Index, kept: Index, more: &[u8]) -> Appended
     requires { ⌜ (length (now room) ≡ largest) × (len ≤ largest) ⌝ }
     requires { ⌜ freshIn (now room) len ≡ record { number = 0; index = fresh } ⌝ }
@@ -57,10 +59,20 @@ fn extend(room: &mut [u8], len: usize, fresh: Index, kept: Index, more: &[u8]) -
     if more.len() > room.len() - len {
         return refused(JOURNAL_TOO_LARGE, len, kept);
     }
+    let version = version_in(room, len);
     let count = records(&fresh.kinds) as usize;
     let mut places = fresh.places;
     let mut kinds = fresh.kinds;
-    let p = add_records(more, 0, len, count, fresh.reads, &mut places, &mut kinds);
+    let p = add_records(
+        version,
+        more,
+        0,
+        len,
+        count,
+        fresh.reads,
+        &mut places,
+        &mut kinds,
+    );
     if p.number != 0 {
         return refused(p.number, len, kept);
     }

@@ -1,8 +1,8 @@
 // The index of a journal, worked out afresh.
 ghost use mathlib.Core.Path.{_≡_};
-ghost use Prim.Native.Nat.{_+_, _^_, _<_};
-ghost use lib.ListN.{length};
-ghost use Rattle.journal.specs.Header.{largest};
+ghost use Prim.Native.Nat.{_+_, _^_, _≤_, _<_};
+ghost use lib.ListN.{length, take};
+ghost use Rattle.journal.specs.Header.{largest, versionOf};
 ghost use Rattle.journal.specs.Layout.{sum};
 ghost use mathlib.Core.List.{[]};
 ghost use Rattle.index.specs.Summary.{recordsIn, summaryOf};
@@ -52,6 +52,15 @@ fn none(number: u32) -> Fresh
     }
 }
 
+// The version of the journal that the first `len` bytes of a room are.
+pub fn version_in(room: &[u8], len: usize) -> u32
+    requires { ⌜ len ≤ length (now room) ⌝ }
+    ensures { λ r. ⌜ r ≡ versionOf (take len (now (room .entry))) ⌝ }
+{
+    let h = header(&room[..len]);
+    h.version
+}
+
 // One pass over a journal.
 pub fn work_out(j: &[u8]) -> Fresh
     ensures { λ r. ⌜ r ≡ freshOf (now (j .entry)) ⌝ }
@@ -63,7 +72,7 @@ pub fn work_out(j: &[u8]) -> Fresh
     }
     let mut places = [0u32; PLACES];
     let mut kinds = [0u32; KINDS];
-    let p = add_records(j, h.place, 0, 0, 0, &mut places, &mut kinds);
+    let p = add_records(h.version, j, h.place, 0, 0, 0, &mut places, &mut kinds);
     if p.number != 0 {
         return none(p.number);
     }

@@ -13,6 +13,7 @@ use crate::filing::same_file;
 use crate::fresh::Fresh;
 use crate::fresh::fresh_in;
 use crate::fresh::records;
+use crate::fresh::version_in;
 use crate::same::same_index;
 use crate::summary::EVERY;
 use crate::summary::Index;
@@ -28,15 +29,15 @@ use ledger::numbers::TOO_LONG;
 // The most record numbers of one call.
 pub const NUMBERS: usize = 64;
 
-// The position after n records; where there are not so many, after the last.
-fn pass(j: &[u8], from: usize, n: usize) -> usize
-    ensures { λ r. ⌜ r ≡ passed n (now (j .entry)) from ⌝ }
+// The position after n records of a version; where there are not so many, after the last.
+fn pass(version: u32, j: &[u8], from: usize, n: usize) -> usize
+    ensures { λ r. ⌜ r ≡ passed n version (now (j .entry)) from ⌝ }
     ensures { λ r. ⌜ r ≤ max from (length (now (j .entry))) ⌝ }
 {
     let mut at = from;
     let mut i: usize = 0;
     while i < n {
-        match read(j, at) {
+        match read(version, j, at) {
             Found::One(_, next) => {
                 at = next;
                 i += 1;
@@ -66,9 +67,9 @@ struct Looked {
 }
 
 // The record of a number, from the nearest entry at or before it on.
-fn find(j: &[u8], places: &[u32; PLACES], count: usize, number: u32) -> Looked
+fn find(version: u32, j: &[u8], places: &[u32; PLACES], count: usize, number: u32) -> Looked
     requires { ⌜ (length (now j) ≤ largest) × (count ≤ every * mostPlaces) ⌝ }
-    ensures { λ r. ⌜ (r .answer ≡ sought count (now (places .entry)) (now (j .entry)) number .answer) × (r .place ≡ sought count (now (places .entry)) (now (j .entry)) number .place) ⌝ }
+    ensures { λ r. ⌜ (r .answer ≡ sought count (now (places .entry)) version (now (j .entry)) number .answer) × (r .place ≡ sought count (now (places .entry)) version (now (j .entry)) number .place) ⌝ }
 {
     let n = number as usize;
     if n >= count {
@@ -77,7 +78,7 @@ fn find(j: &[u8], places: &[u32; PLACES], count: usize, number: u32) -> Looked
             place: 0,
         };
     }
-    let at = pass(j, wide(places[n / EVERY]), n % EVERY);
+    let at = pass(version, j, wide(places[n / EVERY]), n % EVERY);
     Looked {
         answer: DONE,
         place: at as u32,
@@ -86,6 +87,7 @@ fn find(j: &[u8], places: &[u32; PLACES], count: usize, number: u32) -> Looked
 
 // Several record numbers, one after another; what is found of each is laid at the start of two rooms.
 pub fn find_all(
+    version: u32,
     j: &[u8],
     places: &[u32; PLACES],
     count: usize,
@@ -95,12 +97,12 @@ pub fn find_all(
 )
     requires { ⌜ (length (now j) ≤ largest) × (count ≤ every * mostPlaces) ⌝ }
     requires { ⌜ length (now numbers) ≤ 64 ⌝ }
-    ensures { λ _. ⌜ now (answers .exit) ≡ sets (now (answers .entry)) 0 (map (λ m. sought count (now (places .entry)) (now (j .entry)) m .answer) (now (numbers .entry))) ⌝ }
-    ensures { λ _. ⌜ now (found .exit) ≡ sets (now (found .entry)) 0 (map (λ m. sought count (now (places .entry)) (now (j .entry)) m .place) (now (numbers .entry))) ⌝ }
+    ensures { λ _. ⌜ now (answers .exit) ≡ sets (now (answers .entry)) 0 (map (λ m. sought count (now (places .entry)) version (now (j .entry)) m .answer) (now (numbers .entry))) ⌝ }
+    ensures { λ _. ⌜ now (found .exit) ≡ sets (now (found .entry)) 0 (map (λ m. sought count (now (places .entry)) version (now (j .entry)) m .place) (now (numbers .entry))) ⌝ }
 {
     let mut i: usize = 0;
     while i < numbers.len() {
-        let l = find(j, places, count, numbers[i]);
+        let l = find(version, j, places, count, numbers[i]);
         answers[i] = l.answer;
         found[i] = l.place;
         i += 1;
@@ -135,7 +137,16 @@ fn look_if(
     }
     let index = it.index;
     let count = records(&index.kinds) as usize;
-    find_all(&room[..len], &index.places, count, numbers, answers, found);
+    let version = version_in(room, len);
+    find_all(
+        version,
+        &room[..len],
+        &index.places,
+        count,
+        numbers,
+        answers,
+        found,
+    );
     DONE
 }
 

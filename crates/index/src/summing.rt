@@ -63,9 +63,10 @@ pub struct Passed {
     pub reads: u32,
 }
 
-// Goes over the records from a position of some bytes on, and adds each to an index of `count` records. The bytes stand `base` bytes further
-// on in the journal than in `j`.
+// Goes over the records of a version from a position of some bytes on, and adds each to an index of `count` records. The bytes stand `base`
+// bytes further on in the journal than in `j`.
 pub fn add_records(
+    version: u32,
     j: &[u8],
     from: usize,
     base: usize,
@@ -76,16 +77,16 @@ pub fn add_records(
 ) -> Passed
     requires { ⌜ (from ≤ length (now j)) × (base + length (now j) ≤ largest) ⌝ }
     requires { ⌜ Roomy count (base + from) (now kinds) reads ⌝ }
-    ensures { λ r. ⌜ r .number ≡ walk 1 (now (j .entry)) from .number ⌝ }
-    ensures { λ r. ⌜ r .count ≡ count + length (walk 1 (now (j .entry)) from .entries) ⌝ }
-    ensures { λ r. ⌜ index (now (places .exit)) (now (kinds .exit)) (r .reads) ≡ updated count (index (now (places .entry)) (now (kinds .entry)) reads) (map (further base) (walk 1 (now (j .entry)) from .entries)) ⌝ }
+    ensures { λ r. ⌜ r .number ≡ walk version (now (j .entry)) from .number ⌝ }
+    ensures { λ r. ⌜ r .count ≡ count + length (walk version (now (j .entry)) from .entries) ⌝ }
+    ensures { λ r. ⌜ index (now (places .exit)) (now (kinds .exit)) (r .reads) ≡ updated count (index (now (places .entry)) (now (kinds .entry)) reads) (map (further base) (walk version (now (j .entry)) from .entries)) ⌝ }
     ensures { λ r. ⌜ Roomy (r .count) (base + length (now (j .entry))) (now (kinds .exit)) (r .reads) ⌝ }
 {
     let mut at = from;
     let mut many = count;
     let mut sum = reads;
     loop {
-        match read(j, at) {
+        match read(version, j, at) {
             Found::One(it, next) => {
                 let t = told(it);
                 mark(places, many, base + at);

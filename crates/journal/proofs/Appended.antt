@@ -4,15 +4,14 @@ use mathlib.Core.List.{List, _++_}
 use Prim.Native.Nat.{ℕ, _≤_}
 use native.Mathlib.Omega.{arith}
 use lib.ListN.{length}
-use Rattle.journal.specs.Header.{largest, recordsBegin, headerOf}
+use Rattle.journal.specs.Header.{largest, recordsBegin, headerOf, versionOf}
 use Rattle.journal.specs.Walking.{entry, Walk, onto, walk, walkOf, endingOf}
 use Rattle.journal.specs.Writing.{joined}
-use Rattle.journal.specs.declared.heading.Heading.{Heading}
 use Rattle.journal.proofs.Sides.{by-same}
 use Rattle.journal.proofs.Onward.{read-ahead, stop-not-0, end-past}
 use Rattle.journal.proofs.Told.{read-on}
 use Rattle.journal.proofs.Walks.{along, walk-one, walk-stop, walk-end, good-walk, bad-walk}
-use Rattle.journal.proofs.GoodHeader.{header-good, good-header, good-longer}
+use Rattle.journal.proofs.GoodHeader.{header-good, header-longer, version-longer}
 
 abbrev number : Walk → ℕ
 number w = w .number
@@ -38,10 +37,10 @@ pub ends-well : (j : List ℕ) → endingOf j ≡ 0 → headerOf j .number ≡ 0
 ends-well j e = by-same (headerOf j .number) 0 (λ h. h) (λ h. absurd (h (sym (ap number (bad-walk j h)) ∙ e)))
 
 -- THE APPENDING, of whole journals
-pub append-journal : (j more : List ℕ) → endingOf j ≡ 0 → length (j ++ more) ≤ largest → walkOf (j ++ more) ≡ joined (walkOf j) (walk 1 (j ++ more) (length j))
+pub append-journal : (j more : List ℕ) → endingOf j ≡ 0 → length (j ++ more) ≤ largest → walkOf (j ++ more) ≡ joined (walkOf j) (walk (versionOf j) (j ++ more) (length j))
 append-journal j more e l =
     let h = ends-well j e in
-    let g = header-good j h in
+    let v = versionOf j in
     let w = good-walk j h in
-    let k = ap (λ (x : Heading). x .number) (good-header (j ++ more) (good-longer j more l g)) in
-    good-walk (j ++ more) k ∙ appended 1 j more recordsBegin (g .there) (sym (ap number w) ∙ e) ∙ sym (ap (λ (x : Walk). joined x (walk 1 (j ++ more) (length j))) w)
+    good-walk (j ++ more) (header-longer j more l h) ∙ ap (λ (u : ℕ). walk u (j ++ more) recordsBegin) (version-longer j more l h)
+    ∙ appended v j more recordsBegin (header-good j h .there) (sym (ap number w) ∙ e) ∙ sym (ap (λ (x : Walk). joined x (walk v (j ++ more) (length j))) w)

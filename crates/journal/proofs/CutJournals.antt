@@ -7,11 +7,11 @@ use borrow.Author.Tests.{ne-eqb}
 use lib.ListN.{length, take, length-take}
 use lib.Seq.{take-all, take-length}
 use Rattle.ledger.specs.Choice.{pick}
-use Rattle.journal.specs.Header.{recordsBegin, headerOf}
+use Rattle.journal.specs.Header.{recordsBegin, headerOf, versionOf}
 use Rattle.journal.specs.Walking.{Walk, walk, behind, walkOf, endingOf}
 use Rattle.journal.specs.Cutting.{upTo, cutNumber, cutWalk, walkWithin}
 use Rattle.journal.proofs.Sides.{by-less, by-same}
-use Rattle.journal.proofs.GoodHeader.{header-good, heading-good, header-cut, header-kept}
+use Rattle.journal.proofs.GoodHeader.{header-good, heading-good, header-cut, header-kept, version-kept}
 use Rattle.journal.proofs.Walks.{good-walk, bad-walk}
 use Rattle.journal.proofs.CutWalks.{stops-ahead, none-before, first-of-them, all-up-to, stop-boundary, reaches, walk-cut}
 
@@ -29,7 +29,8 @@ cut n j =
     (by-same (headerOf (take n j) .number) 0
     (λ h. let w = header-good (take n j) h .there in
     let m : recordsBegin ≤ min n (length j) = omega (arith, w, length-take n j) in
-    rw (heading-good (take n j) h) (good-walk (take n j) h ∙ ap (λ (k : List ℕ). walk 1 k recordsBegin) (as-far n j) ∙ walk-cut 1 (min n (length j)) j recordsBegin m))
+    let v = versionOf (take n j) in
+    rw (heading-good (take n j) h) (good-walk (take n j) h ∙ ap (λ (k : List ℕ). walk v k recordsBegin) (as-far n j) ∙ walk-cut v (min n (length j)) j recordsBegin m))
     (λ h. rw (ne-eqb (headerOf (take n j) .number) 0 h) (bad-walk (take n j) h)))
 
 -- its entries, and the number that ends it
@@ -40,8 +41,8 @@ pub cut-ending : (n : ℕ) (j : List ℕ) → endingOf (take n j) ≡ walkWithin
 cut-ending n j = ap (λ (w : Walk). w .number) (cut n j)
 
 -- where the whole has a good header, and the cut leaves it
-pub cut-behind : (n : ℕ) (j : List ℕ) → headerOf j .number ≡ 0 → recordsBegin ≤ n → walkOf (take n j) ≡ cutWalk n 1 j recordsBegin (walkOf j)
-cut-behind n j good h = rw (good-walk (take n j) (header-kept n j h good), good-walk j good) (walk-cut 1 n j recordsBegin h)
+pub cut-behind : (n : ℕ) (j : List ℕ) → headerOf j .number ≡ 0 → recordsBegin ≤ n → walkOf (take n j) ≡ cutWalk n (versionOf j) j recordsBegin (walkOf j)
+cut-behind n j good h = rw (good-walk (take n j) (header-kept n j h good), version-kept n j h good, good-walk j good) (walk-cut (versionOf j) n j recordsBegin h)
 
 -- its entries are the first of the whole's, as many as end within the cut
 pub cut-first : (n : ℕ) (j : List ℕ) → headerOf j .number ≡ 0 → walkOf (take n j) .entries ≡ take (length (upTo n (walkOf j .entries))) (walkOf j .entries)
@@ -49,14 +50,15 @@ unfolding cutWalk
 cut-first n j good =
     by-less n recordsBegin
     (λ l. let none = bad-walk (take n j) (λ h. omega (arith, l, header-good (take n j) h .there, length-take n j)) in
-    rw (none, good-walk j good, none-before 1 j n recordsBegin (omega (arith, l))) refl)
-    (λ l. rw (cut-behind n j good l, good-walk j good) (first-of-them 1 n j recordsBegin))
+    rw (none, good-walk j good, none-before (versionOf j) j n recordsBegin (omega (arith, l))) refl)
+    (λ l. rw (cut-behind n j good l, good-walk j good) (first-of-them (versionOf j) n j recordsBegin))
 
 -- SALVAGE: cut where its walk stops, a journal with a good header has all its records, and ends with 0
 pub salvaged-walk : (j : List ℕ) → headerOf j .number ≡ 0 → walkOf (take (walkOf j .stop) j) ≡ record { entries = walkOf j .entries; stop = walkOf j .stop; number = 0 }
 unfolding cutWalk cutNumber pick
 salvaged-walk j good =
     let w = good-walk j good in
-    let s = walk 1 j recordsBegin .stop in
-    let c : walkOf (take s j) ≡ cutWalk s 1 j recordsBegin (walk 1 j recordsBegin) = rw w at (cut-behind s j good (stops-ahead 1 j recordsBegin)) in
-    rw (w, c, all-up-to 1 j s recordsBegin (omega arith), reaches 1 j recordsBegin, stop-boundary 1 j recordsBegin) refl
+    let v = versionOf j in
+    let s = walk v j recordsBegin .stop in
+    let c : walkOf (take s j) ≡ cutWalk s v j recordsBegin (walk v j recordsBegin) = rw w at (cut-behind s j good (stops-ahead v j recordsBegin)) in
+    rw (w, c, all-up-to v j s recordsBegin (omega arith), reaches v j recordsBegin, stop-boundary v j recordsBegin) refl

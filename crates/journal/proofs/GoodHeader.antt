@@ -1,9 +1,10 @@
 -- The header test by test: which number it gives; that the number is 0 exactly if all that a good header has is there; and what a cut leaves
 -- of it.
-use mathlib.Core.Path.{_≡_, refl, sym, ap, _∙_}
+use mathlib.Core.Path.{_≡_, refl, sym, ap, ap₂, _∙_}
 use mathlib.Core.Bool.{Bool, true, false}
 use mathlib.Core.List.{List, _++_}
-use Prim.Native.Nat.{ℕ, suc, _-_, _≤_, _<_, min}
+use mathlib.Core.Logic.{_⊎_, inl, inr}
+use Prim.Native.Nat.{ℕ, suc, _+_, _-_, _≤_, _<_, min}
 use native.Mathlib.Omega.{arith}
 use borrow.Author.Tests.{ltb-false, lt-ltb, le-ltb, eqb-true, eq-eqb, ne-eqb, not-false}
 use lib.ListN.{length, getD, take, drop, length-take, length-drop, length-append, List·getD-append}
@@ -12,7 +13,7 @@ use Rattle.ledger.specs.Choice.{pick}
 use Rattle.ledger.specs.Numbers.{markWrong, versionWrong, cutShort, journalTooLarge}
 use Rattle.words.specs.Bytes.{leNumber}
 use Rattle.journal.specs.Reading.{num}
-use Rattle.journal.specs.Header.{largest, recordsBegin, heading, refusalWithin, headerWithin, headerOf}
+use Rattle.journal.specs.Header.{largest, recordsBegin, heading, known, refusalWithin, headerWithin, headerOf, versionOf}
 use Rattle.journal.specs.declared.heading.Heading.{Heading}
 use Rattle.journal.proofs.Sides.{by-less, by-same}
 use Rattle.journal.proofs.Runs.{payload-cut}
@@ -24,7 +25,7 @@ pub record GoodHeader (n : ℕ) (j : List ℕ) : Type 0 where
   pub first : getD j 0 0 ≡ 78
   pub second : getD j 1 0 ≡ 75
   pub third : getD j 2 0 ≡ 74
-  pub version : num 2 j 3 ≡ 1
+  pub version : known (num 2 j 3) ≡ true
 
 -- a number other than 0 was not chosen
 not-this : (t : Bool) (n x : ℕ) → pick t (suc n) x ≡ 0 → (t ≡ false) × (x ≡ 0)
@@ -50,14 +51,14 @@ module _ (n : ℕ) (j : List ℕ) where
         first = eqb-true _ _ (not-false _ (c .0));
         second = eqb-true _ _ (not-false _ (d .0));
         third = eqb-true _ _ (not-false _ (f .0));
-        version = eqb-true _ _ (not-false _ (h .0));
+        version = not-false _ (h .0);
       }
 
   pub good-refusal : GoodHeader n j → refusalWithin n j ≡ 0
   unfolding refusalWithin pick
   good-refusal g =
       let w = g .there in
-      rw (le-ltb largest n (g .fits), le-ltb n 3 (omega arith), eq-eqb _ _ (g .first), eq-eqb _ _ (g .second), eq-eqb _ _ (g .third), le-ltb n 5 (omega arith), eq-eqb _ _ (g .version), le-ltb n recordsBegin w)
+      rw (le-ltb largest n (g .fits), le-ltb n 3 (omega arith), eq-eqb _ _ (g .first), eq-eqb _ _ (g .second), eq-eqb _ _ (g .third), le-ltb n 5 (omega arith), g .version, le-ltb n recordsBegin w)
 
   -- the number of each test, where those before it pass
   pub too-large : largest < n → journalTooLarge ≡ refusalWithin n j
@@ -86,15 +87,15 @@ module _ (n : ℕ) (j : List ℕ) where
   no-version b c d e f =
       rw (le-ltb largest n (omega arith), le-ltb n 3 b, eq-eqb (getD j 0 0) 78 c, eq-eqb (getD j 1 0) 75 d, eq-eqb (getD j 2 0) 74 e, lt-ltb n 5 f)
 
-  pub version-wrong : n ≤ largest → 5 ≤ n → getD j 0 0 ≡ 78 → getD j 1 0 ≡ 75 → getD j 2 0 ≡ 74 → (num 2 j 3 ≡ 1 → ⊥) → versionWrong ≡ refusalWithin n j
+  pub version-wrong : n ≤ largest → 5 ≤ n → getD j 0 0 ≡ 78 → getD j 1 0 ≡ 75 → getD j 2 0 ≡ 74 → known (num 2 j 3) ≡ false → versionWrong ≡ refusalWithin n j
   unfolding refusalWithin pick
   version-wrong a b c d e g =
-      rw (le-ltb largest n a, le-ltb n 3 (omega arith), eq-eqb (getD j 0 0) 78 c, eq-eqb (getD j 1 0) 75 d, eq-eqb (getD j 2 0) 74 e, le-ltb n 5 b, ne-eqb (num 2 j 3) 1 g)
+      rw (le-ltb largest n a, le-ltb n 3 (omega arith), eq-eqb (getD j 0 0) 78 c, eq-eqb (getD j 1 0) 75 d, eq-eqb (getD j 2 0) 74 e, le-ltb n 5 b, g)
 
-  pub no-start : 5 ≤ n → getD j 0 0 ≡ 78 → getD j 1 0 ≡ 75 → getD j 2 0 ≡ 74 → num 2 j 3 ≡ 1 → n < recordsBegin → cutShort ≡ refusalWithin n j
+  pub no-start : 5 ≤ n → getD j 0 0 ≡ 78 → getD j 1 0 ≡ 75 → getD j 2 0 ≡ 74 → known (num 2 j 3) ≡ true → n < recordsBegin → cutShort ≡ refusalWithin n j
   unfolding refusalWithin pick
   no-start b c d e g h =
-      rw (le-ltb largest n (omega arith), le-ltb n 3 (omega arith), eq-eqb (getD j 0 0) 78 c, eq-eqb (getD j 1 0) 75 d, eq-eqb (getD j 2 0) 74 e, le-ltb n 5 b, eq-eqb (num 2 j 3) 1 g, lt-ltb n recordsBegin h)
+      rw (le-ltb largest n (omega arith), le-ltb n 3 (omega arith), eq-eqb (getD j 0 0) 78 c, eq-eqb (getD j 1 0) 75 d, eq-eqb (getD j 2 0) 74 e, le-ltb n 5 b, g, lt-ltb n recordsBegin h)
 
 -- the number of a whole journal's header
 abbrev pub refusalOf : List ℕ → ℕ
@@ -109,13 +110,24 @@ module _ (j : List ℕ) where
   pub header-good : headerOf j .number ≡ 0 → GoodHeader (length j) j
   header-good e = refusal-good (length j) j (sym (header-number j) ∙ e)
 
-  -- a good one is of version 1
-  pub good-header : GoodHeader (length j) j → headerOf j ≡ heading 0 1 recordsBegin
+  -- a good one has the version that stands there
+  pub good-header : GoodHeader (length j) j → headerOf j ≡ heading 0 (num 2 j 3) recordsBegin
   unfolding headerOf headerWithin pick
-  good-header g = rw (good-refusal (length j) j g, g .version) refl
+  good-header g = rw (good-refusal (length j) j g) refl
 
-  pub heading-good : headerOf j .number ≡ 0 → headerOf j ≡ heading 0 1 recordsBegin
-  heading-good e = good-header (header-good e)
+  pub version-there : headerOf j .number ≡ 0 → versionOf j ≡ num 2 j 3
+  version-there e = ap (λ (x : Heading). x .version) (good-header (header-good e))
+
+  pub heading-good : headerOf j .number ≡ 0 → headerOf j ≡ heading 0 (versionOf j) recordsBegin
+  heading-good e = good-header (header-good e) ∙ ap (λ (v : ℕ). heading 0 v recordsBegin) (sym (version-there e))
+
+  -- which is 1 or 2
+  pub good-version : headerOf j .number ≡ 0 → (versionOf j ≡ 1) ⊎ (versionOf j ≡ 2)
+  unfolding known
+  good-version e =
+      by-same (versionOf j) 1 inl
+      (λ n. let k : known (versionOf j) ≡ true = rw (version-there e) (header-good e .version) in
+      inr (eqb-true (versionOf j) 2 (rw (ne-eqb (versionOf j) 1 n) at k)))
 
   -- any other says nothing but its number
   pub heading-bad : (headerOf j .number ≡ 0 → ⊥) → headerOf j ≡ heading (refusalOf j) 0 0
@@ -123,8 +135,13 @@ module _ (j : List ℕ) where
   heading-bad h = rw (ne-eqb (refusalOf j) 0 (λ e. h (header-number j ∙ e))) refl
 
   -- what is said by the number that was found
-  pub said-good : (n : ℕ) → n ≡ refusalOf j → n ≡ 0 → heading n 1 recordsBegin ≡ headerOf j
-  said-good n e z = ap (λ (m : ℕ). heading m 1 recordsBegin) z ∙ sym (heading-good (header-number j ∙ sym e ∙ z))
+  pub said-good : (n v : ℕ) → n ≡ refusalOf j → n ≡ 0 → v ≡ num 2 j 3 → heading n v recordsBegin ≡ headerOf j
+  said-good n v e z w =
+      ap₂ (λ (m u : ℕ). heading m u recordsBegin) z w ∙ sym (good-header (header-good (header-number j ∙ sym e ∙ z)))
+
+  -- and its bytes are there to be read
+  pub version-read : (n : ℕ) → n ≡ refusalOf j → n ≡ 0 → 3 + 2 ≤ length j
+  version-read n e z = let w = refusal-good (length j) j (sym e ∙ z) .there in omega arith
 
   pub said-bad : (n : ℕ) → n ≡ refusalOf j → (n ≡ 0 → ⊥) → heading n 0 0 ≡ headerOf j
   said-bad n e h = ap (λ (m : ℕ). heading m 0 0) e ∙ sym (heading-bad (λ z. h (e ∙ sym (header-number j) ∙ z)))
@@ -167,22 +184,39 @@ good-kept n j h g =
       first = getD-take n j 0 0 (omega arith) ∙ g .first;
       second = getD-take n j 1 0 (omega arith) ∙ g .second;
       third = getD-take n j 2 0 (omega arith) ∙ g .third;
-      version = version-cut n j (omega arith) ∙ g .version;
+      version = rw (version-cut n j (omega arith)) (g .version);
     }
 
 pub header-kept : (n : ℕ) (j : List ℕ) → recordsBegin ≤ n → headerOf j .number ≡ 0 → headerOf (take n j) .number ≡ 0
 header-kept n j h e = ap (λ (x : Heading). x .number) (good-header (take n j) (good-kept n j h (header-good j e)))
 
+-- in the same version
+pub version-kept : (n : ℕ) (j : List ℕ) → recordsBegin ≤ n → headerOf j .number ≡ 0 → versionOf (take n j) ≡ versionOf j
+version-kept n j h e = version-there (take n j) (header-kept n j h e) ∙ version-cut n j (omega arith) ∙ sym (version-there j e)
+
+version-append : (j more : List ℕ) → 5 ≤ length j → num 2 (j ++ more) 3 ≡ num 2 j 3
+version-append j more h =
+    let d : length (drop 3 j) ≡ length j - 3 = length-drop 3 j in
+    rw (drop-append-le 3 j more (omega arith), take-append-le 2 (drop 3 j) more (omega arith))
+
 -- and so does one behind which more bytes stand
 pub good-longer : (j more : List ℕ) → length (j ++ more) ≤ largest → GoodHeader (length j) j → GoodHeader (length (j ++ more)) (j ++ more)
 good-longer j more l g =
     let w = g .there in
-    let d : length (drop 3 j) ≡ length j - 3 = length-drop 3 j in
     record {
       fits = l;
       there = rw (length-append j more) (omega arith);
       first = List·getD-append j more 0 0 (omega arith) ∙ g .first;
       second = List·getD-append j more 0 1 (omega arith) ∙ g .second;
       third = List·getD-append j more 0 2 (omega arith) ∙ g .third;
-      version = rw (drop-append-le 3 j more (omega arith), take-append-le 2 (drop 3 j) more (omega arith)) (g .version);
+      version = rw (version-append j more (omega arith)) (g .version);
     }
+
+pub header-longer : (j more : List ℕ) → length (j ++ more) ≤ largest → headerOf j .number ≡ 0 → headerOf (j ++ more) .number ≡ 0
+header-longer j more l e = ap (λ (x : Heading). x .number) (good-header (j ++ more) (good-longer j more l (header-good j e)))
+
+-- in the same version
+pub version-longer : (j more : List ℕ) → length (j ++ more) ≤ largest → headerOf j .number ≡ 0 → versionOf (j ++ more) ≡ versionOf j
+version-longer j more l e =
+    let w = header-good j e .there in
+    version-there (j ++ more) (header-longer j more l e) ∙ version-append j more (omega arith) ∙ sym (version-there j e)

@@ -12,5 +12,8 @@ pub mod Appended
 pub mod Moved
 pub mod Written
 pub mod Said
+pub mod Again
+pub mod WholeJournals
 pub mod Parts
+pub mod Laying
 pub mod Vectors

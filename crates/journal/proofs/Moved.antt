@@ -12,7 +12,7 @@ use Rattle.ledger.specs.Sizes.{longest}
 use Rattle.ledger.specs.Numbers.{tooLong, cutShort, unknownKind}
 use Rattle.journal.specs.Layout.{widths, sum, recordOf, carries}
 use Rattle.journal.specs.Reading.{fieldsIn, carrying, opened, front, readAt}
-use Rattle.journal.specs.Header.{largest}
+use Rattle.journal.specs.Header.{largest, versionOf}
 use Rattle.journal.specs.Walking.{entry, onto, walk, walkOf, endingOf}
 use Rattle.journal.specs.Writing.{joined, further, furtherOn}
 use Rattle.journal.specs.declared.records.Record.{Record}
@@ -68,7 +68,7 @@ module _ (v : ℕ) (xs ys : List ℕ) where
       (λ at e. walk-end v (xs ++ ys) (length xs + at) (read-moved at ∙ ap (moved (length xs)) e) ∙ sym (ap (furtherOn (length xs)) (walk-end v ys at e)))
 
 -- WHAT IS APPENDED to a journal that ends with 0 is walked by itself: the records are the old ones and the new, and the number is the new ones'
-pub appended-alone : (j more : List ℕ) → endingOf j ≡ 0 → length (j ++ more) ≤ largest → walkOf (j ++ more) ≡ joined (walkOf j) (furtherOn (length j) (walk 1 more 0))
+pub appended-alone : (j more : List ℕ) → endingOf j ≡ 0 → length (j ++ more) ≤ largest → walkOf (j ++ more) ≡ joined (walkOf j) (furtherOn (length j) (walk (versionOf j) more 0))
 appended-alone j more e l =
     let m : length j + 0 ≡ length j = omega arith in
-    append-journal j more e l ∙ ap (joined (walkOf j)) (rw m at (walk-moved 1 j more 0))
+    append-journal j more e l ∙ ap (joined (walkOf j)) (rw m at (walk-moved (versionOf j) j more 0))

@@ -7,7 +7,7 @@ use borrow.Author.Tests.{ne-eqb}
 use lib.ListN.{length}
 use Rattle.ledger.specs.Choice.{pick}
 use Rattle.journal.specs.Reading.{readAt}
-use Rattle.journal.specs.Header.{recordsBegin, headerOf}
+use Rattle.journal.specs.Header.{recordsBegin, headerOf, versionOf}
 use Rattle.journal.specs.Walking.{entry, Walk, onto, halt, step, walkFrom, walk, behind, walkOf, endingOf}
 use Rattle.journal.specs.declared.heading.Heading.{Heading}
 use Rattle.journal.specs.declared.records.Record.{Record}
@@ -74,7 +74,7 @@ module _ (v : ℕ) (j : List ℕ) (P : ℕ → Walk → Type 0)
 
 -- ---- a whole journal
 module _ (j : List ℕ) where
-  pub good-walk : headerOf j .number ≡ 0 → walkOf j ≡ walk 1 j recordsBegin
+  pub good-walk : headerOf j .number ≡ 0 → walkOf j ≡ walk (versionOf j) j recordsBegin
   unfolding walkOf behind pick
   good-walk h = rw (heading-good j h) refl
 
@@ -93,17 +93,17 @@ module _ (j : List ℕ) (h : Heading) (e : h ≡ headerOf j) where
   pub refused : (h .number ≡ 0 → ⊥) → h .number ≡ endingOf j
   refused n = ap number e ∙ sym (ap ending (bad-walk j (λ z. n (ap number e ∙ z))))
 
-  pub begun : h .number ≡ 0 → walk 1 j (h .place) .number ≡ endingOf j
+  pub begun : h .number ≡ 0 → walk (h .version) j (h .place) .number ≡ endingOf j
   begun z =
       let g : headerOf j .number ≡ 0 = sym (ap number e) ∙ z in
-      ap (λ (x : Heading). walk 1 j (x .place) .number) (e ∙ heading-good j g) ∙ sym (ap ending (good-walk j g))
+      ap (λ (x : Heading). walk (x .version) j (x .place) .number) (e ∙ heading-good j g) ∙ sym (ap ending (good-walk j g))
 
-module _ (j : List ℕ) (at : ℕ) (left : walk 1 j at .number ≡ endingOf j) where
-  pub past-one : (r : Record) (next : ℕ) → readAt 1 j at ≡ One r next → walk 1 j next .number ≡ endingOf j
-  past-one r next e = sym (ap ending (walk-one 1 j at r next e)) ∙ left
+module _ (v : ℕ) (j : List ℕ) (at : ℕ) (left : walk v j at .number ≡ endingOf j) where
+  pub past-one : (r : Record) (next : ℕ) → readAt v j at ≡ One r next → walk v j next .number ≡ endingOf j
+  past-one r next e = sym (ap ending (walk-one v j at r next e)) ∙ left
 
-  pub at-stop : (n : ℕ) → readAt 1 j at ≡ Stop n → n ≡ endingOf j
-  at-stop n e = sym (ap ending (walk-stop 1 j at n e)) ∙ left
+  pub at-stop : (n : ℕ) → readAt v j at ≡ Stop n → n ≡ endingOf j
+  at-stop n e = sym (ap ending (walk-stop v j at n e)) ∙ left
 
-  pub at-end : readAt 1 j at ≡ End → 0 ≡ endingOf j
-  at-end e = sym (ap ending (walk-end 1 j at e)) ∙ left
+  pub at-end : readAt v j at ≡ End → 0 ≡ endingOf j
+  at-end e = sym (ap ending (walk-end v j at e)) ∙ left

@@ -4,14 +4,22 @@ use mathlib.Core.List.{List, [], _∷_}
 use lib.ListN.{getD}
 use lib.Dec.{eqb}
 use Rattle.ledger.specs.Choice.{pick}
+use Rattle.ledger.specs.Sizes.{devices}
 use Rattle.journal.specs.declared.records.Record.{Record}
 use Rattle.journal.specs.declared.records.Record.the-variants.{Event, Interrupt, Write, Seed, Read, BlockingRead}
 
--- how many bytes each field of a kind has, in a version; a device has one in version 1, and two from version 2 on. A kind that has no fields is
--- unknown
+-- the bytes of an event's device: one in version 1, two from version 2 on
+unfoldable pub deviceBytes : ℕ → ℕ
+deviceBytes v = pick (eqb v 1) 1 2
+
+-- the devices that there were when journals of a version were written: 16 in version 1, all that a keeper has from version 2 on
+unfoldable pub devicesIn : ℕ → ℕ
+devicesIn v = pick (eqb v 1) 16 devices
+
+-- how many bytes each field of a kind has, in a version; a kind that has no fields is unknown
 unfoldable pub widths : ℕ → ℕ → List ℕ
 widths v kind =
-    getD ([] ∷ (4 ∷ pick (eqb v 1) 1 2 ∷ 8 ∷ 4 ∷ []) ∷ (4 ∷ 4 ∷ 8 ∷ 8 ∷ []) ∷ (4 ∷ 2 ∷ []) ∷ (4 ∷ 2 ∷ 4 ∷ []) ∷ (4 ∷ 2 ∷ []) ∷ (4 ∷ 2 ∷ []) ∷ []) kind []
+    getD ([] ∷ (4 ∷ deviceBytes v ∷ 8 ∷ 4 ∷ []) ∷ (4 ∷ 4 ∷ 8 ∷ 8 ∷ []) ∷ (4 ∷ 2 ∷ []) ∷ (4 ∷ 2 ∷ 4 ∷ []) ∷ (4 ∷ 2 ∷ []) ∷ (4 ∷ 2 ∷ []) ∷ []) kind []
 
 unfoldable pub sum : List ℕ → ℕ
 sum [] = 0

@@ -22,6 +22,10 @@ headOf v r = kindOf r ∷ laid (widths v (kindOf r)) (fieldsOf r)
 unfoldable pub bytesOf : ℕ → Record → List ℕ → List ℕ
 bytesOf v r carried = headOf v r ++ carried
 
+-- a journal's header: the letters N, K, J, the version in two bytes, and the start bytes
+unfoldable pub headerFor : ℕ → List ℕ → List ℕ
+headerFor v start = 78 ∷ 75 ∷ 74 ∷ (leBytes 2 v ++ start)
+
 -- the bytes that a record of a journal carries: the last before the position after it
 unfoldable pub carriedBy : List ℕ → Record → ℕ → List ℕ
 carriedBy j r next = take (carries r) (drop (next - carries r) j)
@@ -53,6 +57,10 @@ saidIn j es = map (saidAt j) es
 unfoldable pub written : ℕ → List Said → List ℕ
 written v [] = []
 written v (s ∷ ss) = bytesOf v (s .what) (s .carried) ++ written v ss
+
+-- a journal of a version, with these start bytes and these records
+unfoldable pub journalOf : ℕ → List ℕ → List Said → List ℕ
+journalOf v start ss = headerFor v start ++ written v ss
 
 unfoldable pub AllWritable : ℕ → List Said → Type 0
 AllWritable v [] = Unit

@@ -13,9 +13,10 @@ pub fn scan(j: &[u8]) -> u32
     if h.number != 0 {
         return h.number;
     }
+    let version = h.version;
     let mut at = h.place;
     loop {
-        match read(j, at) {
+        match read(version, j, at) {
             Found::One(_, next) => {
                 at = next;
             }

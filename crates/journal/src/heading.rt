@@ -3,6 +3,7 @@ ghost use mathlib.Core.Path.{_≡_};
 ghost use Rattle.journal.specs.Header.{refusalWithin, headerOf};
 ghost use lib.ListN.{length};
 use crate::fields::two;
+use crate::versions::known;
 use ledger::numbers::CUT_SHORT;
 use ledger::numbers::JOURNAL_TOO_LARGE;
 use ledger::numbers::MARK_WRONG;
@@ -44,7 +45,7 @@ fn refusal(j: &[u8]) -> u32
     if j.len() < 5 {
         return CUT_SHORT;
     }
-    if two(j, 3) != 1 {
+    if !known(two(j, 3)) {
         return VERSION_WRONG;
     }
     if j.len() < RECORDS_BEGIN {
@@ -67,7 +68,7 @@ pub fn header(j: &[u8]) -> Heading
     }
     Heading {
         number,
-        version: 1,
+        version: two(j, 3),
         place: RECORDS_BEGIN,
     }
 }

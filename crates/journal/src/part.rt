@@ -2,6 +2,8 @@
 ghost use mathlib.Core.Path.{_≡_};
 ghost use Prim.Native.Nat.{_-_};
 ghost use lib.ListN.{take, drop};
+ghost use Rattle.journal.specs.Layout.{carries};
+use crate::records::Record;
 
 // The `len` bytes from `start` on, or as many of them as the journal has.
 fn part(j: &[u8], start: usize, len: usize) -> &[u8]
@@ -24,4 +26,22 @@ pub fn payload(j: &[u8], next: usize, len: usize) -> &[u8]
         return part(j, 0, len);
     }
     part(j, next - len, len)
+}
+
+// How many bytes a record carries.
+pub fn carried(it: Record) -> usize
+    ensures { λ r. ⌜ r ≡ carries it ⌝ }
+{
+    match it {
+        Record::Event { .. } => 0,
+        Record::Interrupt { .. } => 0,
+        Record::Write { now: _, len } => len,
+        Record::Seed {
+            now: _,
+            len,
+            credit: _,
+        } => len,
+        Record::Read { .. } => 0,
+        Record::BlockingRead { .. } => 0,
+    }
 }

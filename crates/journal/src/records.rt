@@ -1,13 +1,15 @@
 // The records: what stands at a position of a journal, one function for each kind. A record is read only where all its bytes are there.
+// Only an event depends on the version; what the other functions find stands there in every version.
 ghost use mathlib.Core.Path.{_≡_};
-ghost use Prim.Native.Nat.{_+_, _-_, _≤_, _<_};
+ghost use Prim.Native.Nat.{ℕ, _+_, _-_, _≤_, _<_};
 ghost use lib.ListN.{length, drop};
 ghost use Rattle.journal.specs.Layout.{carries};
 ghost use Rattle.journal.specs.Reading.{readAt, opened, carrying};
+use crate::fields::device;
 use crate::fields::eight;
 use crate::fields::four;
 use crate::fields::two;
-use crate::fields::wide;
+use crate::versions::device_bytes;
 use ledger::numbers::CUT_SHORT;
 use ledger::numbers::TOO_LONG;
 use ledger::numbers::UNKNOWN_KIND;
@@ -53,15 +55,15 @@ pub enum Found {
     End,
 }
 
-// What stands at a position, in version 1.
-pub fn read(j: &[u8], at: usize) -> Found
-    ensures { λ r. ⌜ r ≡ readAt 1 (now (j .entry)) at ⌝ }
+// What stands at a position, in a version.
+pub fn read(version: u32, j: &[u8], at: usize) -> Found
+    ensures { λ r. ⌜ r ≡ readAt version (now (j .entry)) at ⌝ }
 {
     if j.len() <= at {
         return Found::End;
     }
     match j[at] {
-        1 => event(j, at),
+        1 => event(version, j, at),
         2 => interrupt(j, at),
         3 => write(j, at),
         4 => seed(j, at),
@@ -71,18 +73,19 @@ pub fn read(j: &[u8], at: usize) -> Found
     }
 }
 
-// Kind 1.
-fn event(j: &[u8], at: usize) -> Found
+// Kind 1. How far its fields lie behind the device depends on the version.
+fn event(version: u32, j: &[u8], at: usize) -> Found
     requires { ⌜ at < length (now j) ⌝ }
-    ensures { λ r. ⌜ r ≡ opened 1 1 (at + 1) (drop (at + 1) (now (j .entry))) ⌝ }
+    ensures { λ r. ⌜ r ≡ opened version 1 (at + 1) (drop (at + 1) (now (j .entry))) ⌝ }
 {
-    if j.len() - at < 18 {
+    let width = device_bytes(version);
+    if j.len() - at < 17 + width {
         return Found::Stop(CUT_SHORT);
     }
     let now = four(j, at + 1);
-    let device = wide(j[at + 5]);
-    let stamp = eight(j, at + 6);
-    let value = four(j, at + 14);
+    let device = device(version, j, at + 5);
+    let stamp = eight(j, at + 5 + width);
+    let value = four(j, at + 13 + width);
     Found::One(
         Record::Event {
             now,
@@ -90,14 +93,14 @@ fn event(j: &[u8], at: usize) -> Found
             stamp,
             value,
         },
-        at + 18,
+        at + 17 + width,
     )
 }
 
 // Kind 2.
 fn interrupt(j: &[u8], at: usize) -> Found
     requires { ⌜ at < length (now j) ⌝ }
-    ensures { λ r. ⌜ r ≡ opened 1 2 (at + 1) (drop (at + 1) (now (j .entry))) ⌝ }
+    ensures { λ r. ⌜ ((v : ℕ) → r ≡ opened v 2 (at + 1) (drop (at + 1) (now (j .entry)))) ⌝ }
 {
     if j.len() - at < 25 {
         return Found::Stop(CUT_SHORT);
@@ -134,7 +137,7 @@ fn carry(j: &[u8], it: Record, start: usize, len: usize) -> Found
 // Kind 3.
 fn write(j: &[u8], at: usize) -> Found
     requires { ⌜ at < length (now j) ⌝ }
-    ensures { λ r. ⌜ r ≡ opened 1 3 (at + 1) (drop (at + 1) (now (j .entry))) ⌝ }
+    ensures { λ r. ⌜ ((v : ℕ) → r ≡ opened v 3 (at + 1) (drop (at + 1) (now (j .entry)))) ⌝ }
 {
     if j.len() - at < 7 {
         return Found::Stop(CUT_SHORT);
@@ -147,7 +150,7 @@ fn write(j: &[u8], at: usize) -> Found
 // Kind 4. The credit stands between the length and the bytes.
 fn seed(j: &[u8], at: usize) -> Found
     requires { ⌜ at < length (now j) ⌝ }
-    ensures { λ r. ⌜ r ≡ opened 1 4 (at + 1) (drop (at + 1) (now (j .entry))) ⌝ }
+    ensures { λ r. ⌜ ((v : ℕ) → r ≡ opened v 4 (at + 1) (drop (at + 1) (now (j .entry)))) ⌝ }
 {
     if j.len() - at < 11 {
         return Found::Stop(CUT_SHORT);
@@ -161,7 +164,7 @@ fn seed(j: &[u8], at: usize) -> Found
 // Kind 5. Its length may be any: what is too long to read is an answer of the keeper, and ends nothing.
 fn generator_read(j: &[u8], at: usize) -> Found
     requires { ⌜ at < length (now j) ⌝ }
-    ensures { λ r. ⌜ r ≡ opened 1 5 (at + 1) (drop (at + 1) (now (j .entry))) ⌝ }
+    ensures { λ r. ⌜ ((v : ℕ) → r ≡ opened v 5 (at + 1) (drop (at + 1) (now (j .entry)))) ⌝ }
 {
     if j.len() - at < 7 {
         return Found::Stop(CUT_SHORT);
@@ -174,7 +177,7 @@ fn generator_read(j: &[u8], at: usize) -> Found
 // Kind 6, of any length too.
 fn blocking_read(j: &[u8], at: usize) -> Found
     requires { ⌜ at < length (now j) ⌝ }
-    ensures { λ r. ⌜ r ≡ opened 1 6 (at + 1) (drop (at + 1) (now (j .entry))) ⌝ }
+    ensures { λ r. ⌜ ((v : ℕ) → r ≡ opened v 6 (at + 1) (drop (at + 1) (now (j .entry)))) ⌝ }
 {
     if j.len() - at < 7 {
         return Found::Stop(CUT_SHORT);

@@ -2,7 +2,7 @@
 ghost use mathlib.Core.Path.{_≡_};
 ghost use Prim.Native.Nat.{_+_, _*_, _^_, _≤_, _<_};
 ghost use lib.ListN.{length};
-ghost use Rattle.journal.specs.Layout.{carries};
+ghost use Rattle.journal.specs.Header.{versionOf};
 ghost use Rattle.journal.specs.Reading.{readAt};
 ghost use Rattle.transcript.specs.Text.{Put};
 ghost use Rattle.lab.specs.Looks.{recordText, lookLine};
@@ -24,7 +24,8 @@ use crate::status::given;
 use index::NUMBERS;
 use index::look_filed;
 use journal::Found;
-use journal::Record;
+use journal::carried;
+use journal::header;
 use journal::payload;
 use journal::read;
 use listing::LONGEST_FOUND;
@@ -36,31 +37,14 @@ const WORD: usize = 256;
 
 const LINE: usize = WORD + LONGEST_FOUND + 2 * 4096;
 
-// How many bytes a record carries.
-fn carried(it: Record) -> usize
-    ensures { λ r. ⌜ r ≡ carries it ⌝ }
-{
-    match it {
-        Record::Event { .. } => 0,
-        Record::Interrupt { .. } => 0,
-        Record::Write { now: _, len } => len,
-        Record::Seed {
-            now: _,
-            len,
-            credit: _,
-        } => len,
-        Record::Read { .. } => 0,
-        Record::BlockingRead { .. } => 0,
-    }
-}
-
-// The record at a place, with the bytes that it carries, as text.
+// The record at a place, in the journal's version, with the bytes that it carries, as text.
 fn tell_record(j: &[u8], place: usize, room: &mut [u8], at: usize) -> usize
     requires { ⌜ at + (149 + 2 * 4096) ≤ length (now room) ⌝ }
-    ensures { λ r. ⌜ Put (now (room .entry)) (now (room .exit)) at (recordText (now (j .entry)) place (readAt 1 (now (j .entry)) place)) r ⌝ }
+    ensures { λ r. ⌜ Put (now (room .entry)) (now (room .exit)) at (recordText (now (j .entry)) place (readAt (versionOf (now (j .entry))) (now (j .entry)) place)) r ⌝ }
     ensures { λ r. ⌜ r ≤ at + (149 + 2 * 4096) ⌝ }
 {
-    match read(j, place) {
+    let h = header(j);
+    match read(h.version, j, place) {
         Found::One(it, next) => found(place, it, payload(j, next, carried(it)), room, at),
         Found::Stop(_) => at,
         Found::End => at,

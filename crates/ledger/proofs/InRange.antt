@@ -1,5 +1,5 @@
 -- A keeper in range stays in range, whatever is called, so no call after a fresh start is ever answered 17.
-use mathlib.Core.Path.{_≡_, refl}
+use mathlib.Core.Path.{_≡_, refl, sym, _∙_}
 use mathlib.Core.Bool.{Bool, true, false, _&&_, false≢true}
 use mathlib.Core.List.{List, [], _∷_}
 use Prim.Native.Nat.{ℕ, zero, suc, _+_, _-_, _*_, _%_, _^_, _≤_, _<_}
@@ -373,6 +373,16 @@ fine-low v c f = rw (plan-at-is v c, fine-in-range v f) ((plan-low (v .ledger) (
 pub out-of-range : (v : View) (c : PublicCall) → inRange v ≡ false → (stepView v c) .answer .number ≡ 17
 unfolding stepView planned pick
 out-of-range v c h = rw (plan-at-is v c, h) refl
+
+-- whichever device's timer is out of range, and whatever is called
+pub any-timer : (v : View) (device : ℕ) (c : PublicCall) → timerInRange (timerOf (v .timers) device) ≡ false → (stepView v c) .answer .number ≡ 17
+unfolding inRange
+any-timer v device c h = out-of-range v c (go (inRange v) refl)
+  where
+    go : (b : Bool) → inRange v ≡ b → inRange v ≡ false
+    go false e = e
+    go true e =
+        absurd (false≢true (sym h ∙ timer-fine v device (and-right (ledgerInRange (v .ledger)) (othersInRange (v .timers) (v .fixed)) e)))
 
 -- the view after a list of calls
 unfoldable pub viewAfter : View → List PublicCall → View

@@ -6,7 +6,7 @@ use Prim.Native.Nat.{ℕ, _<_}
 use native.Mathlib.Omega.{arith}
 use lib.Dec.{eqb}
 use lib.IntN.{pos}
-use lib.ListN.{length, length-set, getD-replicate}
+use lib.ListN.{length, length-set, length-replicate, getD-replicate}
 use lib.Seq.{getD-set-same, getD-set-other}
 use borrow.Author.Tests.{eqb-true, eqb-false}
 use Rattle.ledger.specs.Choice.{pick}
@@ -25,19 +25,19 @@ use Rattle.ledger.proofs.Picks.{pick-both}
 use Rattle.ledger.proofs.InRange.{viewAfter}
 
 -- ---- a table of timers
--- a row for each device
-pub record Rows (ts : Timers) : Type 0 where
-  pub clocks : length (ts .clocks) ≡ devices
-  pub firsts : length (ts .firsts) ≡ devices
-  pub seconds : length (ts .seconds) ≡ devices
-  pub came : length (ts .came) ≡ devices
+-- a row for each of n devices
+pub record Rows (n : ℕ) (ts : Timers) : Type 0 where
+  pub clocks : length (ts .clocks) ≡ n
+  pub firsts : length (ts .firsts) ≡ n
+  pub seconds : length (ts .seconds) ≡ n
+  pub came : length (ts .came) ≡ n
 
-kept-rows : (ts : Timers) (d : ℕ) (t : Timer) → Rows ts → Rows (kept d t ts)
+pub kept-rows : {n : ℕ} (ts : Timers) (d : ℕ) (t : Timer) → Rows n ts → Rows n (kept d t ts)
 kept-rows ts d t r =
     record { clocks = length-set (ts .clocks) d (t .clock) ∙ r .clocks; firsts = length-set (ts .firsts) d (t .d1) ∙ r .firsts; seconds = length-set (ts .seconds) d (t .d2) ∙ r .seconds; came = length-set (ts .came) d (t .came) ∙ r .came }
 
 -- the timer that was kept is the device's, and no other device's moved
-kept-same : (ts : Timers) (d : ℕ) (t : Timer) → d < devices → Rows ts → timerOf (kept d t ts) d ≡ t
+kept-same : {n : ℕ} (ts : Timers) (d : ℕ) (t : Timer) → d < n → Rows n ts → timerOf (kept d t ts) d ≡ t
 kept-same ts d t h r =
     rw (getD-set-same (ts .clocks) d (t .clock) 0 (omega (arith, r .clocks)), getD-set-same (ts .firsts) d (t .d1) (pos 0) (omega (arith, r .firsts)), getD-set-same (ts .seconds) d (t .d2) (pos 0) (omega (arith, r .seconds)), getD-set-same (ts .came) d (t .came) 0 (omega (arith, r .came)))
 
@@ -92,7 +92,7 @@ timerBy (now ∷ before) = nextTimer now (timerBy before)
 
 -- a device's timer is what the clocks leave
 pub record Timed (device : ℕ) (ts : Timers) (before : List ℕ) : Type 0 where
-  pub rows : Rows ts
+  pub rows : Rows devices ts
   pub timer : timerOf ts device ≡ timerBy before
 
 -- a plan that keeps no timer leaves it
@@ -147,12 +147,17 @@ unfolding viewAfter clocksFrom
 after-calls device v [] before h f = f
 after-calls device v (c ∷ cs) before h f = after-calls device ((stepView v c) .view) cs (clocksWith device v before c) h (after-call device v c before h f)
 
+-- a fresh table has a row for each device
+pub fresh-rows : Rows devices (freshView .timers)
+fresh-rows =
+    record { clocks = length-replicate {A = ℕ} devices 0; firsts = length-replicate devices (pos 0); seconds = length-replicate devices (pos 0); came = length-replicate {A = ℕ} devices 0 }
+
 -- of a fresh keeper, on which no event came
 fresh-timed : (device : ℕ) → device < devices → Timed device (freshView .timers) []
 unfolding timerBy
 fresh-timed device h =
     record {
-      rows = record { clocks = refl; firsts = refl; seconds = refl; came = refl };
+      rows = fresh-rows;
       timer = rw (getD-replicate {A = ℕ} devices device 0 0 h, getD-replicate devices device (pos 0) (pos 0) h);
     }
 

@@ -6,6 +6,7 @@ pub mod Blocking
 pub mod Still
 pub mod Marked
 pub mod KeptTimers
+pub mod FewDevices
 pub mod NewDevices
 pub mod SmallPlans
 pub mod Worth

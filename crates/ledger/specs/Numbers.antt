@@ -48,3 +48,6 @@ outOfRange = 17
 
 abbrev pub noSuchRecord : ℕ
 noSuchRecord = 18
+
+abbrev pub roomTooShort : ℕ
+roomTooShort = 19

@@ -3,7 +3,7 @@ use Prim.Native.Nat.{ℕ}
 
 -- devices are 0 up to one less
 abbrev pub devices : ℕ
-devices = 16
+devices = 1024
 
 -- words of the input pool, of the blocking pool, of the fast pool and of the generator
 abbrev pub inputWords : ℕ

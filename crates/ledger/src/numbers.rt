@@ -34,3 +34,6 @@ pub const OUT_OF_RANGE: u32 = 17;
 
 // A record number past a journal's last record.
 pub const NO_SUCH_RECORD: u32 = 18;
+
+// A room that is shorter than what is to be written into it.
+pub const ROOM_TOO_SHORT: u32 = 19;

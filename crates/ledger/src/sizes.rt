@@ -1,7 +1,7 @@
 // Sizes, one name for each; `specs/Sizes.antt` has the same names.
 
 // Devices: 0 up to one less.
-pub const DEVICES: usize = 16;
+pub const DEVICES: usize = 1024;
 
 // Words of the input pool, of the blocking pool, of the fast pool and of the generator.
 pub const INPUT_WORDS: usize = 128;

@@ -61,7 +61,7 @@ abbrev pub Ledger-ty : Ty
 Ledger-ty = tyStruct (108 ∷ 101 ∷ 100 ∷ 103 ∷ 101 ∷ 114 ∷ 58 ∷ 58 ∷ 76 ∷ 101 ∷ 100 ∷ 103 ∷ 101 ∷ 114 ∷ []) (tcons Gauge-ty (tcons Gauge-ty (tcons (tyInt w32) (tcons Spill-ty (tcons Seeding-ty tnil)))))
 
 abbrev pub Keeper-ty : Ty
-Keeper-ty = tyStruct (107 ∷ 101 ∷ 101 ∷ 112 ∷ 101 ∷ 114 ∷ 58 ∷ 58 ∷ 75 ∷ 101 ∷ 101 ∷ 112 ∷ 101 ∷ 114 ∷ []) (tcons Ledger-ty (tcons (tyArray (tyInt w32) 16) (tcons (tyArray (tyInt w64) 16) (tcons (tyArray (tyInt w64) 16) (tcons (tyArray (tyInt w8) 16) (tcons (tyArray (tyInt w32) 128) (tcons (tyArray (tyInt w32) 32) (tcons (tyArray (tyInt w32) 4) (tcons (tyArray (tyInt w32) 16) tnil)))))))))
+Keeper-ty = tyStruct (107 ∷ 101 ∷ 101 ∷ 112 ∷ 101 ∷ 114 ∷ 58 ∷ 58 ∷ 75 ∷ 101 ∷ 101 ∷ 112 ∷ 101 ∷ 114 ∷ []) (tcons Ledger-ty (tcons (tyArray (tyInt w32) 1024) (tcons (tyArray (tyInt w64) 1024) (tcons (tyArray (tyInt w64) 1024) (tcons (tyArray (tyInt w8) 1024) (tcons (tyArray (tyInt w32) 128) (tcons (tyArray (tyInt w32) 32) (tcons (tyArray (tyInt w32) 4) (tcons (tyArray (tyInt w32) 16) tnil)))))))))
 
 abbrev pub Answer-ty : Ty
 Answer-ty = tyStruct (108 ∷ 101 ∷ 100 ∷ 103 ∷ 101 ∷ 114 ∷ 58 ∷ 58 ∷ 65 ∷ 110 ∷ 115 ∷ 119 ∷ 101 ∷ 114 ∷ []) (tcons (tyInt w32) (tcons (tyInt w32) (tcons (tyInt w32) (tcons (tyInt w32) (tcons (tyInt w32) tnil)))))
@@ -137,7 +137,7 @@ abbrev member : RattleType → Member
 member R = record { row = R; ty = lone (R .mir) }
 
 abbrev members : List Member
-members = member (L.the-field .row) ∷ member (Array u32 16) ∷ member (Array i64 16) ∷ member (Array i64 16) ∷ member (Array u8 16) ∷ member (Array u32 128) ∷ member (Array u32 32) ∷ member (Array u32 4) ∷ member (Array u32 16) ∷ []
+members = member (L.the-field .row) ∷ member (Array u32 1024) ∷ member (Array i64 1024) ∷ member (Array i64 1024) ∷ member (Array u8 1024) ∷ member (Array u32 128) ∷ member (Array u32 32) ∷ member (Array u32 4) ∷ member (Array u32 16) ∷ []
 
 abbrev listed : Keeper → Denots (rowsOf members)
 listed h = (L.the-type .to (h .ledger), (h .clocks, (h .firsts, (h .seconds, (h .came, (h .input, (h .blocking, (h .fast, (h .generator, tt)))))))))
@@ -192,13 +192,13 @@ module _ {M : Type 1} {𝓤 : URA M} {H : Heap 𝓤} {A : Atoms 𝓤} {Z : Type 
       move t (1 ∷ []) $ peeks t K.the-row (Is K.the-row) (shows 𝓤 H A K.the-row) h (kv h ∷ []) (λ is. drop t $ use1 W (‵ (fat fullShare Keeper-ty b o (kv h))) (W .laws .raw-at fullShare Keeper-ty b o (kv h)) $ k is))
 
   pub apart : Z → (h : Keeper) (b o : ℕ) → IsK h
-      → Step Z W (‵ (partAt (L.the-field .row) fullShare (L.the-type .to (h .ledger)) b (o + 0)) ∷ ‵ (partAt (Array u32 16) fullShare (h .clocks) b (o + 44)) ∷ ‵ (partAt (Array i64 16) fullShare (h .firsts) b (o + 112)) ∷ ‵ (partAt (Array i64 16) fullShare (h .seconds) b (o + 240)) ∷ ‵ (partAt (Array u8 16) fullShare (h .came) b (o + 368)) ∷ ‵ (partAt (Array u32 128) fullShare (h .input) b (o + 384)) ∷ ‵ (partAt (Array u32 32) fullShare (h .blocking) b (o + 896)) ∷ ‵ (partAt (Array u32 4) fullShare (h .fast) b (o + 1024)) ∷ ‵ (partAt (Array u32 16) fullShare (h .generator) b (o + 1040)) ∷ raw (Way 𝓤 H A b o) ∷ Γ) G (‵ (fat fullShare Keeper-ty b o (kv h)) ∷ Γ) G
+      → Step Z W (‵ (partAt (L.the-field .row) fullShare (L.the-type .to (h .ledger)) b (o + 0)) ∷ ‵ (partAt (Array u32 1024) fullShare (h .clocks) b (o + 44)) ∷ ‵ (partAt (Array i64 1024) fullShare (h .firsts) b (o + 4144)) ∷ ‵ (partAt (Array i64 1024) fullShare (h .seconds) b (o + 12336)) ∷ ‵ (partAt (Array u8 1024) fullShare (h .came) b (o + 20528)) ∷ ‵ (partAt (Array u32 128) fullShare (h .input) b (o + 21552)) ∷ ‵ (partAt (Array u32 32) fullShare (h .blocking) b (o + 22064)) ∷ ‵ (partAt (Array u32 4) fullShare (h .fast) b (o + 22192)) ∷ ‵ (partAt (Array u32 16) fullShare (h .generator) b (o + 22208)) ∷ raw (Way 𝓤 H A b o) ∷ Γ) G (‵ (fat fullShare Keeper-ty b o (kv h)) ∷ Γ) G
   apart t h b o is = step (λ s. use1 W (‵ (cellAt fullShare (K.the-row .mir) (kv h ∷ []) b o)) (W .laws .at-raw fullShare Keeper-ty b o (kv h)) $ owned t K.the-row (Is K.the-row) (LL.makes K.the-type K′.the-plain 𝓤 H A) h _ is $ move t (1 ∷ 0 ∷ []) $ part-in t K.the-row h (kv h ∷ []) b o $
       use1 W (‵ (partsAt fullShare members zero (listed h) b o) ⊛ raw (Way 𝓤 H A b o)) (taken-apart 𝓤 H A W h b o) $ split t $ fsplit t $ move t (1 ∷ []) $ fsplit t $ move t (1 ∷ []) $ fsplit t $ move t (1 ∷ []) $ fsplit t $ move t (1 ∷ []) $ fsplit t $ move t (1 ∷ []) $ fsplit t $ move t (1 ∷ []) $ fsplit t $ move t (1 ∷ []) $ fsplit t $ move t (1 ∷ []) $ fsplit t $ move t (1 ∷ []) $ drop t $ move t (8 ∷ 7 ∷ 6 ∷ 5 ∷ 4 ∷ 3 ∷ 2 ∷ 1 ∷ 0 ∷ 9 ∷ []) $ s)
 
   -- at any record
   pub whole-again : Z → (h : Keeper) (b o : ℕ) → (IsK h → Seq Z W (‵ (fat fullShare Keeper-ty b o (kv h)) ∷ Γ) G)
-      → Seq Z W (‵ (partAt (L.the-field .row) fullShare (L.the-type .to (h .ledger)) b (o + 0)) ∷ ‵ (partAt (Array u32 16) fullShare (h .clocks) b (o + 44)) ∷ ‵ (partAt (Array i64 16) fullShare (h .firsts) b (o + 112)) ∷ ‵ (partAt (Array i64 16) fullShare (h .seconds) b (o + 240)) ∷ ‵ (partAt (Array u8 16) fullShare (h .came) b (o + 368)) ∷ ‵ (partAt (Array u32 128) fullShare (h .input) b (o + 384)) ∷ ‵ (partAt (Array u32 32) fullShare (h .blocking) b (o + 896)) ∷ ‵ (partAt (Array u32 4) fullShare (h .fast) b (o + 1024)) ∷ ‵ (partAt (Array u32 16) fullShare (h .generator) b (o + 1040)) ∷ raw (Way 𝓤 H A b o) ∷ Γ) G
+      → Seq Z W (‵ (partAt (L.the-field .row) fullShare (L.the-type .to (h .ledger)) b (o + 0)) ∷ ‵ (partAt (Array u32 1024) fullShare (h .clocks) b (o + 44)) ∷ ‵ (partAt (Array i64 1024) fullShare (h .firsts) b (o + 4144)) ∷ ‵ (partAt (Array i64 1024) fullShare (h .seconds) b (o + 12336)) ∷ ‵ (partAt (Array u8 1024) fullShare (h .came) b (o + 20528)) ∷ ‵ (partAt (Array u32 128) fullShare (h .input) b (o + 21552)) ∷ ‵ (partAt (Array u32 32) fullShare (h .blocking) b (o + 22064)) ∷ ‵ (partAt (Array u32 4) fullShare (h .fast) b (o + 22192)) ∷ ‵ (partAt (Array u32 16) fullShare (h .generator) b (o + 22208)) ∷ raw (Way 𝓤 H A b o) ∷ Γ) G
   whole-again t h b o k = nothing t $ move t (9 ∷ 0 ∷ []) $ fjoin t $ move t (8 ∷ 0 ∷ []) $ fjoin t $ move t (7 ∷ 0 ∷ []) $ fjoin t $ move t (6 ∷ 0 ∷ []) $ fjoin t $ move t (5 ∷ 0 ∷ []) $ fjoin t $ move t (4 ∷ 0 ∷ []) $ fjoin t $ move t (3 ∷ 0 ∷ []) $ fjoin t $ move t (2 ∷ 0 ∷ []) $ fjoin t $ move t (1 ∷ 0 ∷ []) $ fjoin t $ use2 W (‵ (partAt K.the-row fullShare h b o)) (together 𝓤 H A h b o) $
       part-out t K.the-row h b o (λ vs. spelt t K.the-row (Is K.the-row) (shows 𝓤 H A K.the-row) (LL.vals K.the-type K′.the-laws) (LL.tells K.the-type K′.the-laws) fullShare h vs b o $
       move t (1 ∷ []) $ peeks t K.the-row (Is K.the-row) (shows 𝓤 H A K.the-row) h (kv h ∷ []) (λ is. drop t $ use1 W (‵ (fat fullShare Keeper-ty b o (kv h))) (W .laws .raw-at fullShare Keeper-ty b o (kv h)) $ k is))

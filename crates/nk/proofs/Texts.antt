@@ -1,5 +1,5 @@
 -- The texts that the program writes are the transcript in order, each of them once; and which one comes next.
-use mathlib.Core.Path.{_≡_, refl, sym, ap, _∙_}
+use mathlib.Core.Path.{_≡_, refl, sym, ap, subst, _∙_}
 use mathlib.Core.Bool.{Bool, true, false}
 use mathlib.Core.List.{List, [], _∷_, _++_, flatten, append-assoc, append-nil}
 use Prim.Native.Nat.{ℕ, zero, suc, _+_, _-_, _≤_, _<_}
@@ -11,7 +11,7 @@ use lib.ListN.{length, take, drop, getD, length-append, length-drop}
 use lib.Seq.{take-append-seam, getD-drop, drop-drop}
 use Rattle.ledger.specs.Choice.{pick}
 use Rattle.ledger.specs.Sizes.{startBytes}
-use Rattle.journal.specs.Header.{recordsBegin, headerOf, startOf}
+use Rattle.journal.specs.Header.{recordsBegin, headerOf, versionOf, startOf}
 use Rattle.journal.specs.declared.heading.Heading.{Heading}
 use Rattle.journal.proofs.GoodHeader.{heading-good}
 use Rattle.journal.proofs.Sides.{by-same}
@@ -31,42 +31,42 @@ use Rattle.nk.proofs.Turning.{rest, ahead, next-line, whole}
 use Rattle.nk.proofs.Filling.{over, last-turn, full-turn, further-turn}
 
 -- ---- one batch: behind its lines, what is still to be written completes what was; and where there is more, it moves on within the journal
-record Behind (j : List ℕ) (at : ℕ) (k : Keeper) (text : List ℕ) (l : Lines) : Type 0 where
-  all : l .text ++ pick (l .more) (rest j (l .at) (l .keeper)) [] ≡ text ++ rest j at k
+record Behind (v : ℕ) (j : List ℕ) (at : ℕ) (k : Keeper) (text : List ℕ) (l : Lines) : Type 0 where
+  all : l .text ++ pick (l .more) (rest v j (l .at) (l .keeper)) [] ≡ text ++ rest v j at k
   onward : l .more ≡ true → (at < l .at) × (l .at ≤ length j)
 
 -- a turn's line behind a text, and then the rest
-line-behind : (j : List ℕ) (at : ℕ) (k : Keeper) (text : List ℕ)
-    → (text ++ (turnOf j at k) .line) ++ pick ((turnOf j at k) .more) (rest j ((turnOf j at k) .at) ((turnOf j at k) .keeper)) [] ≡ text ++ rest j at k
-line-behind j at k text = append-assoc text _ _ ∙ ap (λ (l : List ℕ). text ++ l) (sym (next-line j at k))
+line-behind : (v : ℕ) (j : List ℕ) (at : ℕ) (k : Keeper) (text : List ℕ)
+    → (text ++ (turnOf v j at k) .line) ++ pick ((turnOf v j at k) .more) (rest v j ((turnOf v j at k) .at) ((turnOf v j at k) .keeper)) [] ≡ text ++ rest v j at k
+line-behind v j at k text = append-assoc text _ _ ∙ ap (λ (l : List ℕ). text ++ l) (sym (next-line v j at k))
 
-behind-over : (j : List ℕ) (at : ℕ) (k : Keeper) (text : List ℕ) → Behind j at k text (over j at k text)
-behind-over j at k text = record { all = line-behind j at k text; onward = ahead j at k }
+behind-over : (v : ℕ) (j : List ℕ) (at : ℕ) (k : Keeper) (text : List ℕ) → Behind v j at k text (over v j at k text)
+behind-over v j at k text = record { all = line-behind v j at k text; onward = ahead v j at k }
 
 -- a turn, where the turns from the next position on are known
-a-turn : (n : ℕ) (j : List ℕ) (at : ℕ) (k : Keeper) (text : List ℕ)
-    → ((turnOf j at k) .more ≡ true → Behind j at k text (turnsBehind n j ((turnOf j at k) .at) ((turnOf j at k) .keeper) (text ++ (turnOf j at k) .line)))
-    → Behind j at k text (turnsBehind (suc n) j at k text)
-a-turn n j at k text on = by ((turnOf j at k) .more) (leb (length (text ++ (turnOf j at k) .line)) mostBefore) refl refl
+a-turn : (n : ℕ) (v : ℕ) (j : List ℕ) (at : ℕ) (k : Keeper) (text : List ℕ)
+    → ((turnOf v j at k) .more ≡ true → Behind v j at k text (turnsBehind n v j ((turnOf v j at k) .at) ((turnOf v j at k) .keeper) (text ++ (turnOf v j at k) .line)))
+    → Behind v j at k text (turnsBehind (suc n) v j at k text)
+a-turn n v j at k text on = by ((turnOf v j at k) .more) (leb (length (text ++ (turnOf v j at k) .line)) mostBefore) refl refl
   where
-    by : (m f : Bool) → (turnOf j at k) .more ≡ m → leb (length (text ++ (turnOf j at k) .line)) mostBefore ≡ f → Behind j at k text (turnsBehind (suc n) j at k text)
-    by false f e g = rw (last-turn n j at k text e) (behind-over j at k text)
-    by true false e g = rw (full-turn n j at k text (leb-false _ mostBefore g)) (behind-over j at k text)
-    by true true e g = rw (further-turn n j at k text e (leb-true _ mostBefore g)) (on e)
+    by : (m f : Bool) → (turnOf v j at k) .more ≡ m → leb (length (text ++ (turnOf v j at k) .line)) mostBefore ≡ f → Behind v j at k text (turnsBehind (suc n) v j at k text)
+    by false f e g = rw (last-turn n v j at k text e) (behind-over v j at k text)
+    by true false e g = rw (full-turn n v j at k text (leb-false _ mostBefore g)) (behind-over v j at k text)
+    by true true e g = rw (further-turn n v j at k text e (leb-true _ mostBefore g)) (on e)
 
-behind : (n : ℕ) (j : List ℕ) (at : ℕ) (k : Keeper) (text : List ℕ) → length j < at + n → Behind j at k text (turnsBehind (suc n) j at k text)
+behind : (n : ℕ) (v : ℕ) (j : List ℕ) (at : ℕ) (k : Keeper) (text : List ℕ) → length j < at + n → Behind v j at k text (turnsBehind (suc n) v j at k text)
 unfolding pick
-behind zero j at k text h = a-turn zero j at k text (λ e. absurd (let a = ahead j at k e in omega (arith, h, a .0, a .1)))
-behind (suc n) j at k text h =
-    a-turn (suc n) j at k text
-    (λ e. let a = ahead j at k e in
-    let b = behind n j ((turnOf j at k) .at) ((turnOf j at k) .keeper) (text ++ (turnOf j at k) .line) (omega (arith, h, a .0)) in
-    let l : (text ++ (turnOf j at k) .line) ++ rest j ((turnOf j at k) .at) ((turnOf j at k) .keeper) ≡ text ++ rest j at k = rw e at (line-behind j at k text) in
+behind zero v j at k text h = a-turn zero v j at k text (λ e. absurd (let a = ahead v j at k e in omega (arith, h, a .0, a .1)))
+behind (suc n) v j at k text h =
+    a-turn (suc n) v j at k text
+    (λ e. let a = ahead v j at k e in
+    let b = behind n v j ((turnOf v j at k) .at) ((turnOf v j at k) .keeper) (text ++ (turnOf v j at k) .line) (omega (arith, h, a .0)) in
+    let l : (text ++ (turnOf v j at k) .line) ++ rest v j ((turnOf v j at k) .at) ((turnOf v j at k) .keeper) ≡ text ++ rest v j at k = rw e at (line-behind v j at k text) in
     record { all = b .all ∙ l; onward = λ m. let o = b .onward m in (omega (arith, a .0, o .0), o .1) })
 
-batch : (j : List ℕ) (at : ℕ) (k : Keeper) → Behind j at k [] (batchOf j at k)
+batch : (v : ℕ) (j : List ℕ) (at : ℕ) (k : Keeper) → Behind v j at k [] (batchOf v j at k)
 unfolding batchOf
-batch j at k = behind (suc (length j)) j at k [] (omega arith)
+batch v j at k = behind (suc (length j)) v j at k [] (omega arith)
 
 -- ---- all batches
 when-all : (b : Bool) (x : List (List ℕ)) (y : List ℕ) → (b ≡ true → flatten x ≡ y) → flatten (pick b x []) ≡ pick b y []
@@ -74,17 +74,17 @@ unfolding flatten pick
 when-all true x y h = h refl
 when-all false x y h = refl
 
-from-on : (n : ℕ) (j : List ℕ) (at : ℕ) (k : Keeper) → length j < at + n → flatten (batchesFrom (suc n) j at k) ≡ rest j at k
+from-on : (n : ℕ) (v : ℕ) (j : List ℕ) (at : ℕ) (k : Keeper) → length j < at + n → flatten (batchesFrom (suc n) v j at k) ≡ rest v j at k
 unfolding batchesFrom flatten
-from-on zero j at k h =
-    let b = batch j at k in
-    ap (λ (l : List ℕ). (batchOf j at k) .text ++ l) (when-all ((batchOf j at k) .more) _ _ (λ e. absurd (let o = b .onward e in omega (arith, h, o .0, o .1)))) ∙ b .all
-from-on (suc n) j at k h =
-    let b = batch j at k in
-    ap (λ (l : List ℕ). (batchOf j at k) .text ++ l) (when-all ((batchOf j at k) .more) _ _ (λ e. let o = b .onward e in from-on n j _ _ (omega (arith, h, o .0)))) ∙ b .all
+from-on zero v j at k h =
+    let b = batch v j at k in
+    ap (λ (l : List ℕ). (batchOf v j at k) .text ++ l) (when-all ((batchOf v j at k) .more) _ _ (λ e. absurd (let o = b .onward e in omega (arith, h, o .0, o .1)))) ∙ b .all
+from-on (suc n) v j at k h =
+    let b = batch v j at k in
+    ap (λ (l : List ℕ). (batchOf v j at k) .text ++ l) (when-all ((batchOf v j at k) .more) _ _ (λ e. let o = b .onward e in from-on n v j _ _ (omega (arith, h, o .0)))) ∙ b .all
 
 -- a good header, and another
-good : (j : List ℕ) → headerOf j .number ≡ 0 → textsOf j ≡ batchesFrom (suc (length j)) j recordsBegin (fresh (startOf j))
+good : (j : List ℕ) → headerOf j .number ≡ 0 → textsOf j ≡ batchesFrom (suc (length j)) (versionOf j) j recordsBegin (fresh (startOf j))
 unfolding textsOf pick
 good j h = rw (heading-good j h) refl
 
@@ -97,7 +97,7 @@ pub transcript-in-texts : (j : List ℕ) → flatten (textsOf j) ≡ transcriptO
 unfolding flatten
 transcript-in-texts j =
     by-same (headerOf j .number) 0
-    (λ h. ap flatten (good j h) ∙ from-on (length j) j recordsBegin (fresh (startOf j)) (omega arith) ∙ whole j h)
+    (λ h. ap flatten (good j h) ∙ from-on (length j) (versionOf j) j recordsBegin (fresh (startOf j)) (omega arith) ∙ whole j h)
     (λ h. ap flatten (bad j h) ∙ append-nil _ ∙ sym (untranscribed j h))
 
 -- ---- there are no more texts than bytes
@@ -106,18 +106,18 @@ unfolding pick
 fewer true x m h = h refl
 fewer false x m h = omega arith
 
-few-from : (n : ℕ) (j : List ℕ) (at : ℕ) (k : Keeper) → length (batchesFrom n j at k) ≤ 1 + (length j - at)
+few-from : (n : ℕ) (v : ℕ) (j : List ℕ) (at : ℕ) (k : Keeper) → length (batchesFrom n v j at k) ≤ 1 + (length j - at)
 unfolding batchesFrom
-few-from zero j at k = omega arith
-few-from (suc n) j at k =
-    let f = fewer ((batchOf j at k) .more) (batchesFrom n j ((batchOf j at k) .at) ((batchOf j at k) .keeper)) (length j - at)
-    (λ e. let o = (batch j at k) .onward e in omega (arith, o .0, o .1, few-from n j ((batchOf j at k) .at) ((batchOf j at k) .keeper))) in
+few-from zero v j at k = omega arith
+few-from (suc n) v j at k =
+    let f = fewer ((batchOf v j at k) .more) (batchesFrom n v j ((batchOf v j at k) .at) ((batchOf v j at k) .keeper)) (length j - at)
+    (λ e. let o = (batch v j at k) .onward e in omega (arith, o .0, o .1, few-from n v j ((batchOf v j at k) .at) ((batchOf v j at k) .keeper))) in
     omega (arith, f)
 
 pub few-texts : (j : List ℕ) → length (textsOf j) ≤ 1 + (length j - recordsBegin)
 few-texts j =
     by-same (headerOf j .number) 0
-    (λ h. rw (good j h) (few-from (suc (length j)) j recordsBegin (fresh (startOf j))))
+    (λ h. rw (good j h) (few-from (suc (length j)) (versionOf j) j recordsBegin (fresh (startOf j))))
     (λ h. omega (arith, ap length (bad j h)))
 
 -- ---- the next text
@@ -133,7 +133,7 @@ from-this j done text more e =
 pub record Told (j : List ℕ) (done at : ℕ) (k : Keeper) : Type 0 where
   pub turns : ℕ
   pub enough : length j < at + turns
-  pub left : drop done (textsOf j) ≡ batchesFrom (suc turns) j at k
+  pub left : drop done (textsOf j) ≡ batchesFrom (suc turns) (versionOf j) j at k
 
 pub told-none : (j : List ℕ) (k k′ : Keeper) (a : Answer) (start : List ℕ) (done : ℕ) (h : Heading) → done ≡ 0 → h ≡ headerOf j → h .number ≡ 0
     → start ≡ take startBytes (drop (h .place - startBytes) j) → left k′ a [] ≡ leavesMade k start → Told j done (h .place) k′
@@ -146,52 +146,57 @@ told-none j k k′ a start done h d e z es l =
     record {
       turns = length j;
       enough = omega arith;
-      left = ap (λ (m : ℕ). drop m (textsOf j)) d ∙ good j g ∙ (λ i. batchesFrom (suc (length j)) j (sym p i) (sym (made ∙ ap fresh s) i));
+      left = ap (λ (m : ℕ). drop m (textsOf j)) d ∙ good j g ∙ (λ i. batchesFrom (suc (length j)) (versionOf j) j (sym p i) (sym (made ∙ ap fresh s) i));
     }
 
-module _ (j : List ℕ) (done at : ℕ) (k : Keeper) (t : Told j done at k) (k′ : Keeper) (b : Batch) (room room′ : List ℕ) (laid : Laid (batchOf j at k) k′ b room room′) where
+module _ (j : List ℕ) (done at : ℕ) (k : Keeper) (t : Told j done at k) (v : ℕ) (same : v ≡ versionOf j) (k′ : Keeper) (b : Batch) (room room′ : List ℕ)
+    (laid-there : Laid (batchOf v j at k) k′ b room room′) where
+  -- the code's version is the journal's
+  laid : Laid (batchOf (versionOf j) j at k) k′ b room room′
+  laid = subst (λ (w : ℕ). Laid (batchOf w j at k) k′ b room room′) same laid-there
+
   -- this batch's text and those behind it
-  these : drop done (textsOf j) ≡ (batchOf j at k) .text ∷ pick ((batchOf j at k) .more) (batchesFrom (t .turns) j ((batchOf j at k) .at) ((batchOf j at k) .keeper)) []
+  these : drop done (textsOf j) ≡ (batchOf (versionOf j) j at k) .text ∷ pick ((batchOf (versionOf j) j at k) .more) (batchesFrom (t .turns) (versionOf j) j ((batchOf (versionOf j) j at k) .at) ((batchOf (versionOf j) j at k) .keeper)) []
   unfolding batchesFrom
   these = t .left
 
   pub in-room : b .count ≤ length room′
-  in-room = omega (arith, laid .count, ap length (laid .written), length-append ((batchOf j at k) .text) (drop (length ((batchOf j at k) .text)) room))
+  in-room = omega (arith, laid .count, ap length (laid .written), length-append ((batchOf (versionOf j) j at k) .text) (drop (length ((batchOf (versionOf j) j at k) .text)) room))
 
-  text-is : take (b .count) room′ ≡ (batchOf j at k) .text
+  text-is : take (b .count) room′ ≡ (batchOf (versionOf j) j at k) .text
   text-is =
-      ap (λ (n : ℕ). take n room′) (laid .count) ∙ ap (λ (x : List ℕ). take (length ((batchOf j at k) .text)) x) (laid .written)
-      ∙ take-append-seam ((batchOf j at k) .text) _
+      ap (λ (n : ℕ). take n room′) (laid .count) ∙ ap (λ (x : List ℕ). take (length ((batchOf (versionOf j) j at k) .text)) x) (laid .written)
+      ∙ take-append-seam ((batchOf (versionOf j) j at k) .text) _
 
   pub next-text : Next j done (take (b .count) room′)
   next-text = rw text-is (from-this j done _ _ these)
 
   pub goes-on : b .more ≡ true → (at < b .at) × (b .at ≤ length j)
-  goes-on e = let o = (batch j at k) .onward (sym (laid .more) ∙ e) in let p = laid .at in (omega (arith, o .0), omega (arith, o .1))
+  goes-on e = let o = (batch (versionOf j) j at k) .onward (sym (laid .more) ∙ e) in let p = laid .at in (omega (arith, o .0), omega (arith, o .1))
 
   pub told-more : b .more ≡ true → Told j (done + 1) (b .at) k′
   unfolding batchesFrom pick
   told-more e = by (t .turns) (t .enough) (t .left)
     where
-      by : (n : ℕ) → length j < at + n → drop done (textsOf j) ≡ batchesFrom (suc n) j at k → Told j (done + 1) (b .at) k′
+      by : (n : ℕ) → length j < at + n → drop done (textsOf j) ≡ batchesFrom (suc n) (versionOf j) j at k → Told j (done + 1) (b .at) k′
       by zero p q = absurd (let o = goes-on e in omega (arith, p, o .0, o .1))
       by (suc n) p q =
           let o = goes-on e in
-          let m : (batchOf j at k) .more ≡ true = sym (laid .more) ∙ e in
-          let tail : drop (done + 1) (textsOf j) ≡ pick ((batchOf j at k) .more) (batchesFrom (suc n) j ((batchOf j at k) .at) ((batchOf j at k) .keeper)) [] =
+          let m : (batchOf (versionOf j) j at k) .more ≡ true = sym (laid .more) ∙ e in
+          let tail : drop (done + 1) (textsOf j) ≡ pick ((batchOf (versionOf j) j at k) .more) (batchesFrom (suc n) (versionOf j) j ((batchOf (versionOf j) j at k) .at) ((batchOf (versionOf j) j at k) .keeper)) [] =
           sym (drop-drop 1 done (textsOf j)) ∙ ap (drop 1) q in
           record {
             turns = n;
             enough = omega (arith, p, o .0);
-            left = rw m at tail ∙ (λ i. batchesFrom (suc n) j (sym (laid .at) i) (sym (laid .keeper) i));
+            left = rw m at tail ∙ (λ i. batchesFrom (suc n) (versionOf j) j (sym (laid .at) i) (sym (laid .keeper) i));
           }
 
   -- where there is no more, this was the last
   pub told-all : b .more ≡ false → done + 1 ≡ length (textsOf j)
   unfolding pick
   told-all e =
-      let m : (batchOf j at k) .more ≡ false = sym (laid .more) ∙ e in
-      let one : drop done (textsOf j) ≡ (batchOf j at k) .text ∷ [] = rw m at these in
+      let m : (batchOf (versionOf j) j at k) .more ≡ false = sym (laid .more) ∙ e in
+      let one : drop done (textsOf j) ≡ (batchOf (versionOf j) j at k) .text ∷ [] = rw m at these in
       omega (arith, ap length one, length-drop done (textsOf j))
 
 -- ---- a journal without records has one text

@@ -9,7 +9,7 @@ use lib.ListN.{length}
 use Rattle.ledger.specs.Choice.{pick}
 use Rattle.ledger.specs.Sizes.{longest}
 use Rattle.journal.specs.Reading.{readAt}
-use Rattle.journal.specs.Header.{recordsBegin, headerOf, startOf}
+use Rattle.journal.specs.Header.{recordsBegin, headerOf, versionOf, startOf}
 use Rattle.journal.specs.Walking.{entry}
 use Rattle.journal.specs.declared.records.Found.{Found}
 use Rattle.journal.specs.declared.records.Found.the-variants.{One, Stop, End}
@@ -33,34 +33,34 @@ most n b h k = omega (arith, h, k)
 last : (n : ℕ) → n ≤ longestEnd → n ≤ longestLine longest
 last n h = omega (arith, h)
 
-short-after : (j : List ℕ) (at : ℕ) (k : Keeper) (f : Found) → length ((after j at k f) .line) ≤ longestLine longest
+short-after : (v : ℕ) (j : List ℕ) (at : ℕ) (k : Keeper) (f : Found) → length ((after v j at k f) .line) ≤ longestLine longest
 unfolding after lineFor
-short-after j at k (One r next) =
-    let o = told k (callOf j (entry at r next)) in
-    most _ (length (o .bytes)) (longest-line (o .answer) (o .keeper .ledger .input .count) (o .keeper .ledger .blocking .count) (o .bytes)) (few k (callOf j (entry at r next)))
-short-after j at k (Stop n) = last _ (longest-end n)
-short-after j at k End = last _ (longest-end 0)
+short-after v j at k (One r next) =
+    let o = told k (callOf v j (entry at r next)) in
+    most _ (length (o .bytes)) (longest-line (o .answer) (o .keeper .ledger .input .count) (o .keeper .ledger .blocking .count) (o .bytes)) (few k (callOf v j (entry at r next)))
+short-after v j at k (Stop n) = last _ (longest-end n)
+short-after v j at k End = last _ (longest-end 0)
 
-pub short : (j : List ℕ) (at : ℕ) (k : Keeper) → length ((turnOf j at k) .line) ≤ longestLine longest
+pub short : (v : ℕ) (j : List ℕ) (at : ℕ) (k : Keeper) → length ((turnOf v j at k) .line) ≤ longestLine longest
 unfolding turnOf
-short j at k = short-after j at k (readAt 1 j at)
+short v j at k = short-after v j at k (readAt v j at)
 
 -- a record that was run lies ahead, within the journal
-ahead-after : (j : List ℕ) (at : ℕ) (k : Keeper) (f : Found) → readAt 1 j at ≡ f → (after j at k f) .more ≡ true
-    → (at < (after j at k f) .at) × ((after j at k f) .at ≤ length j)
+ahead-after : (v : ℕ) (j : List ℕ) (at : ℕ) (k : Keeper) (f : Found) → readAt v j at ≡ f → (after v j at k f) .more ≡ true
+    → (at < (after v j at k f) .at) × ((after v j at k f) .at ≤ length j)
 unfolding after
-ahead-after j at k (One r next) h e = read-ahead 1 j at r next h
-ahead-after j at k (Stop n) h e = absurd (false≢true e)
-ahead-after j at k End h e = absurd (false≢true e)
+ahead-after v j at k (One r next) h e = read-ahead v j at r next h
+ahead-after v j at k (Stop n) h e = absurd (false≢true e)
+ahead-after v j at k End h e = absurd (false≢true e)
 
-pub ahead : (j : List ℕ) (at : ℕ) (k : Keeper) → (turnOf j at k) .more ≡ true → (at < (turnOf j at k) .at) × ((turnOf j at k) .at ≤ length j)
+pub ahead : (v : ℕ) (j : List ℕ) (at : ℕ) (k : Keeper) → (turnOf v j at k) .more ≡ true → (at < (turnOf v j at k) .at) × ((turnOf v j at k) .at ≤ length j)
 unfolding turnOf
-ahead j at k e = ahead-after j at k (readAt 1 j at) refl e
+ahead v j at k e = ahead-after v j at k (readAt v j at) refl e
 
 -- ---- all turns from a position on
 -- what they write, on a keeper as it is there. No journal has more turns than bytes, but for the last
-unfoldable pub rest : List ℕ → ℕ → Keeper → List ℕ
-rest j at k = turnsWrite (suc (suc (length j))) j at k
+unfoldable pub rest : ℕ → List ℕ → ℕ → Keeper → List ℕ
+rest v j at k = turnsWrite (suc (suc (length j))) v j at k
 
 when : (b : Bool) (x y : List ℕ) → (b ≡ true → x ≡ y) → pick b x [] ≡ pick b y []
 unfolding pick
@@ -68,18 +68,18 @@ when true x y h = h refl
 when false x y h = refl
 
 -- a turn more changes nothing where there are turns enough
-grow : (f : ℕ) (j : List ℕ) (at : ℕ) (k : Keeper) → length j < at + f → turnsWrite (suc f) j at k ≡ turnsWrite (suc (suc f)) j at k
+grow : (f : ℕ) (v : ℕ) (j : List ℕ) (at : ℕ) (k : Keeper) → length j < at + f → turnsWrite (suc f) v j at k ≡ turnsWrite (suc (suc f)) v j at k
 unfolding turnsWrite
-grow zero j at k h = ap (λ (l : List ℕ). (turnOf j at k) .line ++ l) (when _ _ _ (λ e. let g = ahead j at k e in absurd (omega (arith, g .0, g .1, h))))
-grow (suc f) j at k h = ap (λ (l : List ℕ). (turnOf j at k) .line ++ l) (when _ _ _ (λ e. let g = ahead j at k e in grow f j _ _ (omega (arith, g .0, h))))
+grow zero v j at k h = ap (λ (l : List ℕ). (turnOf v j at k) .line ++ l) (when _ _ _ (λ e. let g = ahead v j at k e in absurd (omega (arith, g .0, g .1, h))))
+grow (suc f) v j at k h = ap (λ (l : List ℕ). (turnOf v j at k) .line ++ l) (when _ _ _ (λ e. let g = ahead v j at k e in grow f v j _ _ (omega (arith, g .0, h))))
 
 -- the next turn's line, and then the rest
-pub next-line : (j : List ℕ) (at : ℕ) (k : Keeper) → rest j at k ≡ (turnOf j at k) .line ++ pick ((turnOf j at k) .more) (rest j ((turnOf j at k) .at) ((turnOf j at k) .keeper)) []
+pub next-line : (v : ℕ) (j : List ℕ) (at : ℕ) (k : Keeper) → rest v j at k ≡ (turnOf v j at k) .line ++ pick ((turnOf v j at k) .more) (rest v j ((turnOf v j at k) .at) ((turnOf v j at k) .keeper)) []
 unfolding rest turnsWrite
-next-line j at k =
-    ap (λ (l : List ℕ). (turnOf j at k) .line ++ l) (when _ _ _ (λ e. let g = ahead j at k e in grow (length j) j _ _ (omega (arith, g .0))))
+next-line v j at k =
+    ap (λ (l : List ℕ). (turnOf v j at k) .line ++ l) (when _ _ _ (λ e. let g = ahead v j at k e in grow (length j) v j _ _ (omega (arith, g .0))))
 
 -- behind a good header the rest is the transcript
-pub whole : (j : List ℕ) → headerOf j .number ≡ 0 → rest j recordsBegin (fresh (startOf j)) ≡ transcriptOf j
+pub whole : (j : List ℕ) → headerOf j .number ≡ 0 → rest (versionOf j) j recordsBegin (fresh (startOf j)) ≡ transcriptOf j
 unfolding rest
-whole j h = sym (grow (length j) j recordsBegin (fresh (startOf j)) (omega arith)) ∙ transcribed j h
+whole j h = sym (grow (length j) (versionOf j) j recordsBegin (fresh (startOf j)) (omega arith)) ∙ transcribed j h

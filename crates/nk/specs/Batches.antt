@@ -28,31 +28,31 @@ batchRoom = 65536
 abbrev pub mostBefore : ℕ
 mostBefore = batchRoom - longestLine longest
 
--- turns whose lines come behind a text, until the replay ends or the longest line would no longer fit the room. n turns at most
-unfoldable pub turnsBehind : ℕ → List ℕ → ℕ → Keeper → List ℕ → Lines
-turnsBehind zero j at k text = record { keeper = k; at = at; more = false; text = text }
-turnsBehind (suc n) j at k text =
-    let a = turnOf j at k in
+-- turns in a version whose lines come behind a text, until the replay ends or the longest line would no longer fit the room. n turns at most
+unfoldable pub turnsBehind : ℕ → ℕ → List ℕ → ℕ → Keeper → List ℕ → Lines
+turnsBehind zero v j at k text = record { keeper = k; at = at; more = false; text = text }
+turnsBehind (suc n) v j at k text =
+    let a = turnOf v j at k in
     let lines = text ++ a .line in
-    let on = turnsBehind n j (a .at) (a .keeper) lines in
+    let on = turnsBehind n v j (a .at) (a .keeper) lines in
     let over : Lines = record { keeper = a .keeper; at = a .at; more = a .more; text = lines } in
     pick (a .more) (pick (leb (length lines) mostBefore) on over) over
 
 -- the batch at a position, on a keeper as it is there. No journal has more turns than bytes, but for the last
-unfoldable pub batchOf : List ℕ → ℕ → Keeper → Lines
-batchOf j at k = turnsBehind (suc (suc (length j))) j at k []
+unfoldable pub batchOf : ℕ → List ℕ → ℕ → Keeper → Lines
+batchOf v j at k = turnsBehind (suc (suc (length j))) v j at k []
 
 -- the texts of n batches one after another, stopping where one says that there is no more
-unfoldable pub batchesFrom : ℕ → List ℕ → ℕ → Keeper → List (List ℕ)
-batchesFrom zero j at k = []
-batchesFrom (suc n) j at k =
-    let b = batchOf j at k in b .text ∷ pick (b .more) (batchesFrom n j (b .at) (b .keeper)) []
+unfoldable pub batchesFrom : ℕ → ℕ → List ℕ → ℕ → Keeper → List (List ℕ)
+batchesFrom zero v j at k = []
+batchesFrom (suc n) v j at k =
+    let b = batchOf v j at k in b .text ∷ pick (b .more) (batchesFrom n v j (b .at) (b .keeper)) []
 
 -- THE TEXTS of a journal, in the order in which they are written. proofs/Texts.antt shows that one behind another they are its transcript
 unfoldable pub textsOf : List ℕ → List (List ℕ)
 textsOf j =
     let h = headerOf j in
-    pick (eqb (h .number) 0) (batchesFrom (suc (length j)) j (h .place) (fresh (startOf j))) (endOf (h .number) ∷ [])
+    pick (eqb (h .number) 0) (batchesFrom (suc (length j)) (h .version) j (h .place) (fresh (startOf j))) (endOf (h .number) ∷ [])
 
 -- what the code hands back of a batch, and what then stands in the room: the text, and behind it what stood there before
 pub record Laid (b : Lines) (k : Keeper) (r : Batch) (room room′ : List ℕ) : Type 0 where

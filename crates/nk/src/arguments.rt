@@ -10,6 +10,7 @@ use lab::MOST;
 use lab::Sent;
 use lab::append;
 use lab::bring;
+use lab::convert;
 use lab::index;
 use lab::judge;
 use lab::look;
@@ -94,6 +95,9 @@ fn obey_word(word: &[u8], first: usize, count: usize) -> u32 {
     }
     if same(word, b"look") {
         return look(first, count);
+    }
+    if same(word, b"convert") {
+        return convert(first, count);
     }
     if same(word, b"--help") {
         return help();

@@ -25,9 +25,10 @@ pub struct Batch {
     pub count: usize,
 }
 
-// Takes turns until the replay ends or a further line might not fit, and lays their lines one behind another at the room's start. What
+// Takes turns in a journal of a version until the replay ends or a further line might not fit, and lays their lines one behind another at the room's start. What
 // stands behind them stays as it was.
 pub fn fill_room(
+    version: u32,
     j: &[u8],
     at: usize,
     l: Ledger,
@@ -41,7 +42,7 @@ pub fn fill_room(
     generator: &mut [u32; GENERATOR_WORDS],
     room: &mut [u8; ROOM],
 ) -> Batch
-    ensures { λ r. let k = lent l (r .ledger) clocks firsts seconds came input blocking fast generator in ⌜ Laid (batchOf (now (j .entry)) at (k .entry)) (k .exit) r (now (room .entry)) (now (room .exit)) ⌝ }
+    ensures { λ r. let k = lent l (r .ledger) clocks firsts seconds came input blocking fast generator in ⌜ Laid (batchOf version (now (j .entry)) at (k .entry)) (k .exit) r (now (room .entry)) (now (room .exit)) ⌝ }
 {
     let mut out = [0u8; OUT_ROOM];
     let mut line = [0u8; LONGEST_LINE];
@@ -50,6 +51,7 @@ pub fn fill_room(
     let mut count: usize = 0;
     loop {
         let t = take_turn(
+            version,
             j,
             place,
             ledger,

@@ -12,7 +12,9 @@ fn tell(line: &[u8]) {
 
 // What the program can do, and the status of saying it: an output that took nothing is told of at the last line.
 pub fn help() -> u32 {
-    tell(b"nk: journals of the noise keeper, replayed, indexed, written on and looked up in\n\n");
+    tell(
+        b"nk: journals of the noise keeper, replayed, indexed, written on, looked up in and converted\n\n",
+    );
     words();
     numbers();
     let sent = write(
@@ -37,6 +39,9 @@ fn words() {
     tell(
         b"    nk look JOURNAL INDEX N..      print records by their numbers, up to 64, counted from 0\n",
     );
+    tell(
+        b"    nk convert JOURNAL OUT         write a journal of version 1 as version 2 to the file OUT\n",
+    );
     tell(b"    nk --help                      say this\n\n");
     tell(
         b"A line of a transcript is a record's answer, bytes delivered, input count, blocking count,\n",
@@ -55,13 +60,16 @@ fn numbers() {
         b"The last line is `end 0`, or `end` and what was wrong: 3 a length over 4,096 (of a write or a seed) or\n",
     );
     tell(
-        b"a 65th record number, 8 not a journal, 9 another version, 10 cut short, 11 an unknown kind of record,\n",
+        b"a 65th record number, 4 a device over 15 (convert), 8 not a journal, 9 a version other than 1 and 2\n",
     );
     tell(
-        b"12 more than 61,440 bytes, 16 an index that is not the journal's. Then no file was touched. A file is\n",
+        b"(convert: other than 1), 10 cut short, 11 an unknown kind of record, 12 more than 61,440 bytes (convert:\n",
     );
     tell(
-        b"written beside its place, with .new behind its name, and renamed: a crash leaves the old one or the new.\n\n",
+        b"in the outcome too), 16 an index that is not the journal's. Then no file was touched. A file is written\n",
+    );
+    tell(
+        b"beside its place, with .new behind its name, and renamed: a crash leaves the old one or the new.\n\n",
     );
     tell(
         b"Exit status of ./nk: 0 where it ended with 0, 1 where a journal ended with another number, 2\n",

@@ -78,6 +78,7 @@ fn hand_over_all(j: &[u8], done: &mut usize) -> Sent
     let mut room = [0u8; ROOM];
     loop {
         let b = fill_room(
+            h.version,
             j,
             at,
             l,

@@ -1,19 +1,19 @@
 -- The range test as the code makes it: numbers that are below a power of two where a difference is in range, gathered by or in one
 -- pass over the timers.
-use mathlib.Core.Path.{_≡_, refl}
-use mathlib.Core.Bool.{Bool, true, false, _&&_, and-true, and-false, and-assoc}
+use mathlib.Core.Path.{_≡_, refl, sym, ap, _∙_}
+use mathlib.Core.Bool.{Bool, true, false, _&&_, and-true, and-false, and-assoc, and-comm}
 use mathlib.Core.List.{List, [], _∷_}
-use Prim.Native.Nat.{ℕ, suc, _+_, _-_, _%_, _^_, _≤_, _<_, max}
+use Prim.Native.Nat.{ℕ, zero, suc, _+_, _-_, _%_, _^_, _≤_, _<_, max}
 use native.Mathlib.Numerals.{add-one}
 use native.Mathlib.Omega.{arith}
 use borrow.Author.Tests.{lt-ltb, le-ltb, le-leb, lt-leb, ltb-true, ltb-false, leb-true, leb-false}
 use lib.Bits.{bitOr, or-lt, or-add-and, and-le-l, and-le-r}
 use lib.Dec.{T, eqb, ltb, leb}
 use lib.IntN.{ℤ, pos, negsuc, natAbs}
-use lib.ListN.{length, getD, drop, drop-of-length-le}
-use lib.Seq.{drop-cons}
+use lib.ListN.{length, getD, take, drop, length-drop, drop-of-length-le}
+use lib.Seq.{take-all, drop-cons}
 use lib.Signed.{mag, ltZ, nonNeg}
-use Rattle.ledger.specs.Range.{firstInRange, secondInRange, every, fixedWords, sameWords}
+use Rattle.ledger.specs.Range.{within, secondInRange, every, fixedWords, sameWords}
 
 -- generator words 0 to 3
 pub four-words : (ws : List ℕ) → length ws ≡ 4 → (eqb (getD ws 0 0) 0x61707865 && eqb (getD ws 1 0) 0x3320646e && eqb (getD ws 2 0) 0x79622d32 && eqb (getD ws 3 0) 0x6b206574) ≡ sameWords ws fixedWords
@@ -30,19 +30,26 @@ same : (a b : ℕ) (q : Bool) → (q ≡ true → a < b) → (q ≡ false → b 
 same a b true f g = lt-ltb a b (f refl)
 same a b false f g = le-ltb a b (g refl)
 
--- the first, raised by 2^31: r is what the code has
-pub raised-below : (z : ℤ) (r : ℕ) → ltZ z (pos 0) ≡ true → mag z < 2 ^ 63 → r < 2 ^ 64 → (r + natAbs z) % 2 ^ 64 ≡ 2 ^ 31 → ltb r (2 ^ 32) ≡ firstInRange z
-raised-below (pos n) r e h k w = let z : n < 0 = ltb-true n 0 e in absurd (omega arith)
-raised-below (negsuc n) r e h k w = same r (2 ^ 32) (ltb n (2 ^ 31)) (λ t. omega (arith, ltb-true n (2 ^ 31) t)) (λ t. omega (arith, ltb-false n (2 ^ 31) t))
+-- a difference raised by a number: r is what the code has
+module _ (raise limit : ℕ) (low : raise < limit) (high : limit ≤ 2 ^ 63) where
+  pub raised-below : (z : ℤ) (r : ℕ) → ltZ z (pos 0) ≡ true → mag z < 2 ^ 63 → r < 2 ^ 64 → (r + natAbs z) % 2 ^ 64 ≡ raise → ltb r limit ≡ within raise (limit - 1 - raise) z
+  raised-below (pos n) r e h k w = let z : n < 0 = ltb-true n 0 e in absurd (omega arith)
+  raised-below (negsuc n) r e h k w = same r limit (ltb n raise) (λ t. omega (arith, ltb-true n raise t)) (λ t. omega (arith, ltb-false n raise t))
 
-pub raised-above : (z : ℤ) → T (nonNeg z) → ltb (natAbs z + 2 ^ 31) (2 ^ 32) ≡ firstInRange z
-raised-above (pos n) h = same (n + 2 ^ 31) (2 ^ 32) (leb n (2 ^ 31 - 1)) (λ t. omega (arith, leb-true n (2 ^ 31 - 1) t)) (λ t. omega (arith, leb-false n (2 ^ 31 - 1) t))
-raised-above (negsuc n) h = absurd h
+  pub raised-above : (z : ℤ) → T (nonNeg z) → ltb (natAbs z + raise) limit ≡ within raise (limit - 1 - raise) z
+  raised-above (pos n) h = same (n + raise) limit (leb n (limit - 1 - raise)) (λ t. omega (arith, leb-true n (limit - 1 - raise) t)) (λ t. omega (arith, leb-false n (limit - 1 - raise) t))
+  raised-above (negsuc n) h = absurd h
 
--- the second, as it is
-pub amount-second : (z : ℤ) → ltb (natAbs z) (2 ^ 32) ≡ secondInRange z
-amount-second (pos n) = same n (2 ^ 32) (leb n (2 ^ 32 - 1)) (λ t. omega (arith, leb-true n (2 ^ 32 - 1) t)) (λ t. omega (arith, leb-false n (2 ^ 32 - 1) t))
-amount-second (negsuc n) = same (suc n) (2 ^ 32) (ltb n (2 ^ 32 - 1)) (λ t. omega (arith, ltb-true n (2 ^ 32 - 1) t)) (λ t. omega (arith, ltb-false n (2 ^ 32 - 1) t))
+-- a second difference: it is in range where it is by both sums
+both-ends : (s t : Bool) → (t ≡ true → s ≡ true) → (s && t) ≡ t
+both-ends true t f = refl
+both-ends false true f = f refl
+both-ends false false f = refl
+
+pub both-sums : (z : ℤ) → (within (2 ^ 32 - 1) (2 ^ 33 - 1 - (2 ^ 32 - 1)) z && within (2 ^ 32) (2 ^ 33 - 1 - 2 ^ 32) z) ≡ secondInRange z
+both-sums (pos n) = both-ends (leb n (2 ^ 32)) (leb n (2 ^ 32 - 1)) (λ t. le-leb n (2 ^ 32) (omega (arith, leb-true n (2 ^ 32 - 1) t)))
+both-sums (negsuc n) =
+    and-comm (ltb n (2 ^ 32 - 1)) (ltb n (2 ^ 32)) ∙ both-ends (ltb n (2 ^ 32)) (ltb n (2 ^ 32 - 1)) (λ t. lt-ltb n (2 ^ 32) (omega (arith, ltb-true n (2 ^ 32 - 1) t)))
 
 -- ---- numbers gathered by or
 -- the or of two is below where both are
@@ -53,6 +60,15 @@ or-by k a b false t p q = le-ltb (bitOr a b) (2 ^ k) (omega (arith, ltb-false a 
 
 pub or-below : (k a b : ℕ) → ltb (bitOr a b) (2 ^ k) ≡ (ltb a (2 ^ k) && ltb b (2 ^ k))
 or-below k a b = or-by k a b (ltb a (2 ^ k)) (ltb b (2 ^ k)) refl refl
+
+-- a list in two parts, the second up to the end
+split-at : {A : Type 0} (f : A → Bool) (n : ℕ) (xs : List A) → (every f (take n xs) && every f (drop n xs)) ≡ every f xs
+split-at f zero xs = refl
+split-at f (suc n) [] = refl
+split-at f (suc n) (x ∷ xs) = and-assoc (f x) (every f (take n xs)) (every f (drop n xs)) ∙ ap (λ (b : Bool). f x && b) (split-at f n xs)
+
+pub in-parts : {A : Type 0} (f : A → Bool) (n : ℕ) (xs : List A) → (every f (take n xs) && every f (take (length xs - n) (drop n xs))) ≡ every f xs
+in-parts f n xs = rw (take-all (length xs - n) (drop n xs) (omega (arith, length-drop n xs))) (split-at f n xs)
 
 -- one timer's two tests, taken over from what is left to what was met
 taken : (w a b x y : Bool) → (w && (a && b) && (x && y)) ≡ (w && ((a && x) && (b && y)))

@@ -8,15 +8,15 @@ use Rattle.journal.specs.Writing.{carriedBy}
 use Rattle.journal.specs.declared.records.Record.{Record}
 use Rattle.journal.specs.declared.records.Record.the-variants.{Event, Interrupt, Write, Seed, Read, BlockingRead}
 use Rattle.keeper.specs.Calls.{Call, deviceEvent, interrupted, written, seededWith, generatorRead, blockingReadOf}
-use Rattle.replay.specs.Running.{callWith}
+use Rattle.replay.specs.Running.{deviceNamed, callWith}
 
-module _ (j : List ℕ) (r : Record) (next : ℕ) where
+module _ (v : ℕ) (j : List ℕ) (r : Record) (next : ℕ) where
   abbrev Called : Call → Type 0
-  Called c = callWith (carriedBy j r next) r ≡ c
+  Called c = callWith v (carriedBy j r next) r ≡ c
 
-  pub call-event : (now device stamp value : ℕ) → r ≡ Event now device stamp value → Called (deviceEvent device now stamp value)
+  pub call-event : (now device d stamp value : ℕ) → r ≡ Event now device stamp value → d ≡ deviceNamed v device → Called (deviceEvent d now stamp value)
   unfolding callWith
-  call-event now device stamp value e = rw e
+  call-event now device d stamp value e f = rw (e, f)
 
   pub call-interrupt : (now number stamp address : ℕ) → r ≡ Interrupt now number stamp address → Called (interrupted now number stamp address)
   unfolding callWith

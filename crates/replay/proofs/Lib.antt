@@ -4,3 +4,4 @@ pub mod OneTurn
 pub mod Transcribed
 pub mod CutShort
 pub mod PublicJournals
+pub mod OldDevices

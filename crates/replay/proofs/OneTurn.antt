@@ -34,28 +34,28 @@ ended room b n number big h =
     let g : longestEnd ≤ length room = omega arith in
     wrote room b (endOf number) n (rw (le-leb longestEnd (length room) g) at h)
 
-module _ (j : List ℕ) (at : ℕ) (k : Keeper) (room room′ : List ℕ) (n : ℕ) (big : longestLine longest ≤ length room) where
-  pub at-stop : (number : ℕ) (out : List ℕ) → readAt 1 j at ≡ Stop number → _≡_ {A = Written} (record { count = n; room = room′ }) (endIn room number)
-      → Took (turnOf j at k) k (record { ledger = k .ledger; at = at; more = false; count = n }) out out room room′
+module _ (v : ℕ) (j : List ℕ) (at : ℕ) (k : Keeper) (room room′ : List ℕ) (n : ℕ) (big : longestLine longest ≤ length room) where
+  pub at-stop : (number : ℕ) (out : List ℕ) → readAt v j at ≡ Stop number → _≡_ {A = Written} (record { count = n; room = room′ }) (endIn room number)
+      → Took (turnOf v j at k) k (record { ledger = k .ledger; at = at; more = false; count = n }) out out room room′
   unfolding turnOf after
   at-stop number out e h =
       let q = ended room room′ n number big h in
       rw e (record { keeper = refl; at = refl; more = refl; count = q .0; handed = refl; written = q .1 })
 
-  pub at-end : (out : List ℕ) → readAt 1 j at ≡ End → _≡_ {A = Written} (record { count = n; room = room′ }) (endIn room 0)
-      → Took (turnOf j at k) k (record { ledger = k .ledger; at = at; more = false; count = n }) out out room room′
+  pub at-end : (out : List ℕ) → readAt v j at ≡ End → _≡_ {A = Written} (record { count = n; room = room′ }) (endIn room 0)
+      → Took (turnOf v j at k) k (record { ledger = k .ledger; at = at; more = false; count = n }) out out room room′
   unfolding turnOf after
   at-end out e h =
       let q = ended room room′ n 0 big h in
       rw e (record { keeper = refl; at = refl; more = refl; count = q .0; handed = refl; written = q .1 })
 
-  pub at-one : (r : Record) (next : ℕ) (k′ : Keeper) (a : Answer) (out out′ : List ℕ) → readAt 1 j at ≡ One r next
-      → left k′ a out′ ≡ leaves k (callOf j (entry at r next)) out
+  pub at-one : (r : Record) (next : ℕ) (k′ : Keeper) (a : Answer) (out out′ : List ℕ) → readAt v j at ≡ One r next
+      → left k′ a out′ ≡ leaves k (callOf v j (entry at r next)) out
       → _≡_ {A = Written} (record { count = n; room = room′ }) (lineIn room a (k′ .ledger .input .count) (k′ .ledger .blocking .count) (take (a .delivered) out′))
-      → Took (turnOf j at k) k′ (record { ledger = k′ .ledger; at = next; more = true; count = n }) out out′ room room′
+      → Took (turnOf v j at k) k′ (record { ledger = k′ .ledger; at = next; more = true; count = n }) out out′ room room′
   unfolding turnOf after lineIn lineFor leaves pick
   at-one r next k′ a out out′ e l h =
-      let c = callOf j (entry at r next) in
+      let c = callOf v j (entry at r next) in
       let o = told k c in
       let ek : k′ ≡ o .keeper = ap (λ (x : Left). x .keeper) l in
       let ea : a ≡ o .answer = ap (λ (x : Left). x .answer) l in

@@ -16,7 +16,7 @@ use Rattle.replay.specs.Running.{callOf}
 use Rattle.replay.specs.Whole.{outcomesOf, linesOf, transcriptOf, replayed}
 
 abbrev pub callsWithin : ℕ → List ℕ → List Call
-callsWithin n j = map (callOf j) (walkWithin n j .entries)
+callsWithin n j = map (callOf (headerWithin n j .version) j) (walkWithin n j .entries)
 
 abbrev pub outcomesWithin : ℕ → List ℕ → List Outcome
 outcomesWithin n j = outcomes (fresh (startOf j)) (callsWithin n j)

@@ -1,4 +1,4 @@
--- One turn of a replay: what stands at a position is run, and a line is written; or the replay ends, with the last line.
+-- One turn of a replay, in a version: what stands at a position is run, and a line is written; or the replay ends, with the last line.
 use mathlib.Core.Bool.{Bool, true, false}
 use mathlib.Core.Path.{_≡_}
 use mathlib.Core.List.{List, [], _++_}
@@ -24,15 +24,15 @@ pub record After : Type 0 where
   pub line : List ℕ
 
 -- a record is run; what ends the replay has no line of its own and leaves the keeper alone
-unfoldable pub after : List ℕ → ℕ → Keeper → Found → After
-after j at k (One r next) =
-    let o = told k (callOf j (entry at r next)) in
+unfoldable pub after : ℕ → List ℕ → ℕ → Keeper → Found → After
+after v j at k (One r next) =
+    let o = told k (callOf v j (entry at r next)) in
     record { keeper = o .keeper; at = next; more = true; bytes = o .bytes; line = lineFor o }
-after j at k (Stop n) = record { keeper = k; at = at; more = false; bytes = []; line = endOf n }
-after j at k End = record { keeper = k; at = at; more = false; bytes = []; line = endOf 0 }
+after v j at k (Stop n) = record { keeper = k; at = at; more = false; bytes = []; line = endOf n }
+after v j at k End = record { keeper = k; at = at; more = false; bytes = []; line = endOf 0 }
 
-unfoldable pub turnOf : List ℕ → ℕ → Keeper → After
-turnOf j at k = after j at k (readAt 1 j at)
+unfoldable pub turnOf : ℕ → List ℕ → ℕ → Keeper → After
+turnOf v j at k = after v j at k (readAt v j at)
 
 -- what the code hands back of a turn, and what then stands in the two rooms that it is lent
 pub record Took (a : After) (k : Keeper) (t : Turn) (bytes bytes′ room room′ : List ℕ) : Type 0 where

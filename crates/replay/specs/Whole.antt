@@ -4,7 +4,7 @@ use mathlib.Core.List.{List, [], _∷_, _++_, map}
 use Prim.Native.Nat.{ℕ, zero, suc, _-_}
 use lib.Dec.{eqb}
 use Rattle.ledger.specs.Choice.{pick}
-use Rattle.journal.specs.Header.{headerOf, startOf}
+use Rattle.journal.specs.Header.{headerOf, versionOf, startOf}
 use Rattle.journal.specs.Walking.{walkOf, endingOf}
 use Rattle.transcript.specs.Lines.{endOf}
 use Rattle.keeper.specs.Record.{Outcome, fresh}
@@ -16,7 +16,7 @@ use Rattle.replay.specs.Turns.{turnOf}
 
 -- the calls of a journal: one for each whole record, up to what ends the replay
 abbrev pub callsOf : List ℕ → List Call
-callsOf j = map (callOf j) (walkOf j .entries)
+callsOf j = map (callOf (versionOf j) j) (walkOf j .entries)
 
 -- what comes of them, on a fresh keeper of the journal's start bytes
 abbrev pub outcomesOf : List ℕ → List Outcome
@@ -35,11 +35,11 @@ transcriptOf j = linesOf (outcomesOf j) ++ endOf (endingOf j)
 unfoldable pub replayed : List ℕ → Keeper → Keeper
 replayed j k = pick (eqb (headerOf j .number) 0) (keeperAfter (fresh (startOf j)) (callsOf j)) k
 
--- what n turns write, stopping where a turn says that there is no more
-unfoldable pub turnsWrite : ℕ → List ℕ → ℕ → Keeper → List ℕ
-turnsWrite zero j at k = []
-turnsWrite (suc n) j at k =
-    let a = turnOf j at k in a .line ++ pick (a .more) (turnsWrite n j (a .at) (a .keeper)) []
+-- what n turns write in a version, stopping where a turn says that there is no more
+unfoldable pub turnsWrite : ℕ → ℕ → List ℕ → ℕ → Keeper → List ℕ
+turnsWrite zero v j at k = []
+turnsWrite (suc n) v j at k =
+    let a = turnOf v j at k in a .line ++ pick (a .more) (turnsWrite n v j (a .at) (a .keeper)) []
 
 -- ---- a transcript with the hex blotted out, and all else as it is. Between a line's seven numbers stand six spaces: the seventh opens
 -- the hex

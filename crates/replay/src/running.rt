@@ -7,8 +7,9 @@ ghost use Rattle.ledger.specs.Sizes.{longest};
 ghost use Rattle.keeper.specs.Calls.{generatorRead, blockingReadOf};
 ghost use Rattle.steps.specs.Promise.{Leaves, lent, still};
 ghost use Rattle.journal.specs.Writing.{carriedBy};
-ghost use Rattle.replay.specs.Running.{callWith};
+ghost use Rattle.replay.specs.Running.{deviceNamed, callWith};
 use journal::Record;
+use journal::devices_in;
 use journal::payload;
 use ledger::Ledger;
 use ledger::sizes::BLOCKING_WORDS;
@@ -91,8 +92,19 @@ fn blocking_read_into(
     )
 }
 
-// The call that a record stands for; `next` is the position after it. What it hands out is laid into the front of `out`.
+// The device that an event of a version names. One that there was not when such journals were written is none of the keeper's either.
+fn device_named(version: u32, device: u32) -> u32
+    ensures { λ r. ⌜ r ≡ deviceNamed version device ⌝ }
+{
+    if (device as usize) < devices_in(version) {
+        return device;
+    }
+    DEVICES as u32
+}
+
+// The call that a record of a version stands for; `next` is the position after it. What it hands out is laid into the front of `out`.
 pub fn run(
+    version: u32,
     j: &[u8],
     it: Record,
     next: usize,
@@ -108,7 +120,7 @@ pub fn run(
     out: &mut [u8],
 ) -> Done
     requires { ⌜ length (now out) ≡ longest + 1 ⌝ }
-    ensures { λ r. ⌜ Leaves (lent l (r .ledger) clocks firsts seconds came input blocking fast generator) (r .answer) (callWith (carriedBy (now (j .entry)) it next) it) (now (out .entry)) (now (out .exit)) ⌝ }
+    ensures { λ r. ⌜ Leaves (lent l (r .ledger) clocks firsts seconds came input blocking fast generator) (r .answer) (callWith version (carriedBy (now (j .entry)) it next) it) (now (out .entry)) (now (out .exit)) ⌝ }
 {
     match it {
         Record::Event {
@@ -124,7 +136,7 @@ pub fn run(
             came,
             input,
             generator,
-            device,
+            device_named(version, device),
             now,
             stamp,
             value,

@@ -37,8 +37,9 @@ fn line_with(a: Answer, l: Ledger, out: &[u8], n: u32, room: &mut [u8]) -> usize
     line(a, l.input.count, l.blocking.count, &out[..k], room)
 }
 
-// The record at a position, run, and its line; or the last line. `out` is for the bytes that a read hands out.
+// The record at a position of a journal of a version, run, and its line; or the last line. `out` is for the bytes that a read hands out.
 pub fn take_turn(
+    version: u32,
     j: &[u8],
     at: usize,
     l: Ledger,
@@ -53,11 +54,12 @@ pub fn take_turn(
     out: &mut [u8; OUT_ROOM],
     room: &mut [u8; LONGEST_LINE],
 ) -> Turn
-    ensures { λ r. let k = lent l (r .ledger) clocks firsts seconds came input blocking fast generator in ⌜ Took (turnOf (now (j .entry)) at (k .entry)) (k .exit) r (now (out .entry)) (now (out .exit)) (now (room .entry)) (now (room .exit)) ⌝ }
+    ensures { λ r. let k = lent l (r .ledger) clocks firsts seconds came input blocking fast generator in ⌜ Took (turnOf version (now (j .entry)) at (k .entry)) (k .exit) r (now (out .entry)) (now (out .exit)) (now (room .entry)) (now (room .exit)) ⌝ }
 {
-    match read(j, at) {
+    match read(version, j, at) {
         Found::One(it, next) => {
             let d = run(
+                version,
                 j,
                 it,
                 next,

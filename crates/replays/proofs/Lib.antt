@@ -1,1 +1,2 @@
 pub mod Transcripts
+pub mod Converted

@@ -18,14 +18,14 @@ use Rattle.keeper.specs.FastPool.{stirred}
 use Rattle.keeper.specs.Generator.{xorAt, counted, stream, generated}
 use Rattle.keeper.specs.Narrative.{reseed, creditInput, eventCall, interruptCall, seedCall, generate, readCall, transfer, deliver, blockingCall, act, told}
 use Rattle.keeper.specs.Demands.{outcomes}
-use Rattle.journal.specs.Layout.{widths, sum, recordOf, carries}
+use Rattle.journal.specs.Layout.{deviceBytes, devicesIn, widths, sum, recordOf, carries}
 use Rattle.journal.specs.Reading.{fieldsIn, carrying, opened, front, readAt}
 use Rattle.journal.specs.Writing.{carriedBy}
-use Rattle.journal.specs.Header.{refusalWithin, headerWithin, headerOf, startOf}
+use Rattle.journal.specs.Header.{known, refusalWithin, headerWithin, headerOf, startOf}
 use Rattle.journal.specs.Walking.{walkFrom, walk, behind, walkOf}
 use Rattle.transcript.specs.Text.{digits, wordOf, glyphOf, hexOf, tailOf}
 use Rattle.transcript.specs.Lines.{lineOf, endOf}
-use Rattle.replay.specs.Running.{callWith, lineFor}
+use Rattle.replay.specs.Running.{deviceNamed, callWith, lineFor}
 use Rattle.replay.specs.Whole.{linesOf, transcriptOf, spacesLeft, blot, blottedFrom, blotted}
 
 -- the mark and the version
@@ -40,7 +40,7 @@ end-0 = 101 ∷ 110 ∷ 100 ∷ 32 ∷ 48 ∷ 10 ∷ []
 pub paper-told : transcriptOf (opening ++ replicate 48 0 ++ (5 ∷ 0 ∷ 0 ∷ 0 ∷ 0 ∷ 4 ∷ 0 ∷ []))
     -- `2 0 0 0 0 0 0`
     ≡ (50 ∷ 32 ∷ 48 ∷ 32 ∷ 48 ∷ 32 ∷ 48 ∷ 32 ∷ 48 ∷ 32 ∷ 48 ∷ 32 ∷ 48 ∷ 10 ∷ []) ++ end-0
-unfolding transcriptOf linesOf outcomes lineFor callWith carriedBy walkOf behind walk walkFrom headerOf headerWithin refusalWithin startOf readAt front opened carrying fieldsIn widths sum recordOf carries lineOf endOf wordOf digits tailOf told inRange othersInRange ledgerInRange act readCall bytesWords leNumber pick
+unfolding transcriptOf linesOf outcomes lineFor callWith deviceNamed devicesIn deviceBytes known carriedBy walkOf behind walk walkFrom headerOf headerWithin refusalWithin startOf readAt front opened carrying fieldsIn widths sum recordOf carries lineOf endOf wordOf digits tailOf told inRange othersInRange ledgerInRange act readCall bytesWords leNumber pick
 paper-told = refl
 
 -- ---- six records: each with its bytes, and with its line
@@ -105,8 +105,31 @@ abbrev six : List ℕ
 six = opening ++ (start ++ (event ++ (interrupt ++ (seeding ++ (eight ++ (credit ++ three))))))
 
 pub six-told : transcriptOf six ≡ event-line ++ (interrupt-line ++ (seeding-line ++ (eight-line ++ (credit-line ++ (three-line ++ end-0)))))
-unfolding transcriptOf linesOf outcomes lineFor callWith carriedBy walkOf behind walk walkFrom headerOf headerWithin refusalWithin startOf readAt front opened carrying fieldsIn widths sum recordOf carries lineOf endOf wordOf digits tailOf hexOf glyphOf told inRange othersInRange ledgerInRange act eventCall interruptCall seedCall readCall generate blockingCall deliver transfer creditInput reseed eventBits estimate log2 signed taken credited further stirred generated stream counted xorAt bytesWords leNumber wordsBytes leBytes chachaBlock rounds innerBlock quarterRound line extractBlocks poolHash hashed folded compressed initialHash run step schedule nextWord constant Sha1·mix ch parity maj swapped mix mixedWords tapped twisted rotl zipWith pick
+unfolding transcriptOf linesOf outcomes lineFor callWith deviceNamed devicesIn deviceBytes known carriedBy walkOf behind walk walkFrom headerOf headerWithin refusalWithin startOf readAt front opened carrying fieldsIn widths sum recordOf carries lineOf endOf wordOf digits tailOf hexOf glyphOf told inRange othersInRange ledgerInRange act eventCall interruptCall seedCall readCall generate blockingCall deliver transfer creditInput reseed eventBits estimate log2 signed taken credited further stirred generated stream counted xorAt bytesWords leNumber wordsBytes leBytes chachaBlock rounds innerBlock quarterRound line extractBlocks poolHash hashed folded compressed initialHash run step schedule nextWord constant Sha1·mix ch parity maj swapped mix mixedWords tapped twisted rotl zipWith pick
 six-told = refl
+
+-- ---- devices by the version: an event of device d at clock 0 with value 1
+abbrev old-event : ℕ → List ℕ
+old-event d = 1 ∷ 0 ∷ 0 ∷ 0 ∷ 0 ∷ d ∷ 0 ∷ 0 ∷ 0 ∷ 0 ∷ 0 ∷ 0 ∷ 0 ∷ 0 ∷ 1 ∷ 0 ∷ 0 ∷ 0 ∷ []
+
+-- in version 2 the device has two bytes, the lower first
+abbrev new-event : ℕ → ℕ → List ℕ
+new-event low high = 1 ∷ 0 ∷ 0 ∷ 0 ∷ 0 ∷ low ∷ high ∷ 0 ∷ 0 ∷ 0 ∷ 0 ∷ 0 ∷ 0 ∷ 0 ∷ 0 ∷ 1 ∷ 0 ∷ 0 ∷ 0 ∷ []
+
+-- `4 0 0 0 0 0 0`
+abbrev no-device-line : List ℕ
+no-device-line = 52 ∷ 32 ∷ 48 ∷ 32 ∷ 48 ∷ 32 ∷ 48 ∷ 32 ∷ 48 ∷ 32 ∷ 48 ∷ 32 ∷ 48 ∷ 10 ∷ []
+
+-- version 1: device 15 is done, 16 and 255 are answered 4
+pub old-devices-told : transcriptOf (opening ++ (replicate 48 0 ++ (old-event 15 ++ (old-event 16 ++ old-event 255)))) ≡ event-line ++ (no-device-line ++ (no-device-line ++ end-0))
+unfolding transcriptOf linesOf outcomes lineFor callWith deviceNamed devicesIn deviceBytes known carriedBy walkOf behind walk walkFrom headerOf headerWithin refusalWithin startOf readAt front opened carrying fieldsIn widths sum recordOf carries lineOf endOf wordOf digits tailOf hexOf glyphOf told inRange othersInRange ledgerInRange act eventCall interruptCall seedCall readCall generate blockingCall deliver transfer creditInput reseed eventBits estimate log2 signed taken credited further stirred generated stream counted xorAt bytesWords leNumber wordsBytes leBytes chachaBlock rounds innerBlock quarterRound line extractBlocks poolHash hashed folded compressed initialHash run step schedule nextWord constant Sha1·mix ch parity maj swapped mix mixedWords tapped twisted rotl zipWith pick
+old-devices-told = refl
+
+-- version 2: 16 and 1,023 are done; 1,024 and 65,535 are answered 4
+pub new-devices-told : transcriptOf ((78 ∷ 75 ∷ 74 ∷ 2 ∷ 0 ∷ []) ++ (replicate 48 0 ++ (new-event 16 0 ++ (new-event 255 3 ++ (new-event 0 4 ++ new-event 255 255)))))
+    ≡ event-line ++ (event-line ++ (no-device-line ++ (no-device-line ++ end-0)))
+unfolding transcriptOf linesOf outcomes lineFor callWith deviceNamed devicesIn deviceBytes known carriedBy walkOf behind walk walkFrom headerOf headerWithin refusalWithin startOf readAt front opened carrying fieldsIn widths sum recordOf carries lineOf endOf wordOf digits tailOf hexOf glyphOf told inRange othersInRange ledgerInRange act eventCall interruptCall seedCall readCall generate blockingCall deliver transfer creditInput reseed eventBits estimate log2 signed taken credited further stirred generated stream counted xorAt bytesWords leNumber wordsBytes leBytes chachaBlock rounds innerBlock quarterRound line extractBlocks poolHash hashed folded compressed initialHash run step schedule nextWord constant Sha1·mix ch parity maj swapped mix mixedWords tapped twisted rotl zipWith pick
+new-devices-told = refl
 
 -- ---- the hex blotted out: `0 3 262 192 0 10 384*******`, and the last line as it is
 pub three-blotted : blotted (three-line ++ end-0) ≡ (48 ∷ 32 ∷ 51 ∷ 32 ∷ 50 ∷ 54 ∷ 50 ∷ 32 ∷ 49 ∷ 57 ∷ 50 ∷ 32 ∷ 48 ∷ 32 ∷ 49 ∷ 48 ∷ 32 ∷ 51 ∷ 56 ∷ 52 ∷ 42 ∷ 42 ∷ 42 ∷ 42 ∷ 42 ∷ 42 ∷ 42 ∷ 10 ∷ []) ++ end-0

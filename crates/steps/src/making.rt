@@ -94,7 +94,8 @@ pub fn make_on(
     if start.len() != START_BYTES {
         return answered(l, START_NOT_48);
     }
-    let g = first_words(start);
+    // first, so that no start byte has to wait on the stack
+    *generator = first_words(start);
     *clocks = [0u32; DEVICES];
     *firsts = [0i64; DEVICES];
     *seconds = [0i64; DEVICES];
@@ -102,6 +103,5 @@ pub fn make_on(
     *input = [0u32; INPUT_WORDS];
     *blocking = [0u32; BLOCKING_WORDS];
     *fast = [0u32; FAST_WORDS];
-    *generator = g;
     answered(fresh_ledger(), DONE)
 }

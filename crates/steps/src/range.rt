@@ -3,6 +3,7 @@ ghost use mathlib.Core.Path.{_≡_};
 ghost use mathlib.Core.List.{List};
 ghost use Prim.Native.Nat.{ℕ};
 ghost use lib.ListN.{length, take};
+ghost use Rattle.ledger.specs.Sizes.{devices};
 ghost use Rattle.ledger.specs.Timers.{timersOf};
 ghost use Rattle.ledger.specs.Range.{othersInRange};
 use ledger::sizes::GENERATOR_WORDS;
@@ -22,7 +23,7 @@ pub fn others_in_range(
     came: &[u8],
     generator: &[u32; GENERATOR_WORDS],
 ) -> bool
-    requires { ⌜ length (now firsts) ≡ length (now seconds) ⌝ }
+    requires { ⌜ (length (now firsts) ≡ devices) × (length (now seconds) ≡ devices) ⌝ }
     ensures { λ r. ⌜ ((clocks : List ℕ) → r ≡ othersInRange (timersOf clocks (now (firsts .entry)) (now (seconds .entry)) (now (came .entry))) (take 4 (now (generator .entry)))) ⌝ }
 {
     let g = *generator;

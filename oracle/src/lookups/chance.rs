@@ -5,30 +5,31 @@ use std::io;
 use super::cases::{telling, wrong};
 use super::{Field, Trace};
 use crate::index::MOST_NUMBERS;
-use crate::journal::LARGEST;
+use crate::journal::{Version, LARGEST};
 use crate::maker::sized::{self, Fault};
 use crate::random::Random;
 
-pub fn sequence(trace: &mut Trace, random: &mut Random) -> io::Result<()> {
-    let journal = any_journal(random);
+/// The journals of sequences are of the two versions in turn.
+pub fn sequence(trace: &mut Trace, random: &mut Random, version: Version) -> io::Result<()> {
+    let journal = any_journal(random, version);
     trace.room(random, &journal)?;
     trace.fresh()?;
     for _ in 0..random.between(10, 25) {
         match random.below(12) {
             0..=3 => any_look(trace, random)?,
-            4..=7 => any_appending(trace, random)?,
+            4..=7 => any_appending(trace, random, version)?,
             8 => trace.fresh()?,
             9 => shorter(trace, random)?,
-            _ => wrong_index(trace, random)?,
+            _ => wrong_index(trace, random, version)?,
         }
     }
     Ok(())
 }
 
 /// Mostly of some hundred records; one of ten is large, and one is bad.
-fn any_journal(random: &mut Random) -> Vec<u8> {
+fn any_journal(random: &mut Random, version: Version) -> Vec<u8> {
     let count = random.between(0, 200) as usize;
-    let mut journal = sized::of_records(random, count);
+    let mut journal = sized::of_records(random, version, count);
     match random.below(10) {
         0 => {
             let fills = [sized::fill_with_tiny, sized::fill_with_large];
@@ -67,12 +68,12 @@ fn any_look(trace: &mut Trace, random: &mut Random) -> io::Result<()> {
 }
 
 /// Whole records, one time in three with a fault at their end.
-fn any_appending(trace: &mut Trace, random: &mut Random) -> io::Result<()> {
+fn any_appending(trace: &mut Trace, random: &mut Random, version: Version) -> io::Result<()> {
     let count = random.pick(&[0, 1, 1, 2, 5, 30, 63, 64, 65]);
-    let mut more = sized::part(random, count);
+    let mut more = sized::part(random, version, count);
     if random.one_in(3) {
         let fault = random.pick(&[Fault::Cut, Fault::Kind, Fault::Long]);
-        fault.put_last(random, &mut more);
+        fault.put_last(random, version, &mut more);
     }
     trace.append(&more)
 }
@@ -90,7 +91,7 @@ fn shorter(trace: &mut Trace, random: &mut Random) -> io::Result<()> {
 }
 
 /// Calls with one number of the index changed.
-fn wrong_index(trace: &mut Trace, random: &mut Random) -> io::Result<()> {
+fn wrong_index(trace: &mut Trace, random: &mut Random, version: Version) -> io::Result<()> {
     // Half of the time one that is likely to be used.
     let field = match random.below(6) {
         0..=2 => random.pick(&Field::all()),
@@ -101,6 +102,6 @@ fn wrong_index(trace: &mut Trace, random: &mut Random) -> io::Result<()> {
     let right = trace.get(field);
     trace.put(field, wrong(random, right))?;
     any_look(trace, random)?;
-    any_appending(trace, random)?;
+    any_appending(trace, random, version)?;
     trace.put(field, right)
 }

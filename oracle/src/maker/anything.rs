@@ -1,11 +1,23 @@
-//! Start bytes, clocks, lengths and records of any sort.
+//! Versions, start bytes, clocks, lengths, devices and records of any sort.
 
 use std::borrow::Cow;
 
 use super::HALF;
-use crate::journal::Record;
-use crate::keeper::{Keeper, DEVICES, START};
+use crate::journal::{Record, Version};
+use crate::keeper::{Keeper, START};
 use crate::random::Random;
+use crate::situations::{BORDER_DEVICES, BORDER_REFUSALS};
+
+/// Either version, and a good half of the time the newer one.
+pub fn version(random: &mut Random) -> Version {
+    random.pick(&[
+        Version::Two,
+        Version::One,
+        Version::Two,
+        Version::One,
+        Version::Two,
+    ])
+}
 
 /// Start bytes; the counter in them is close to a carry now and then.
 pub fn start(random: &mut Random) -> [u8; START] {
@@ -113,31 +125,68 @@ fn any_credit(random: &mut Random, length: usize) -> u32 {
     random.pick(&[0, most, most, most.saturating_sub(1), below, below, over])
 }
 
+/// A device that a version has; of version 2 half of the time one where another
+/// reading of the field would show.
+pub fn any_device(random: &mut Random, version: Version) -> u32 {
+    let any = random.below(version.devices().into()) as u32;
+    match version {
+        Version::One => any,
+        Version::Two => {
+            let border = random.pick(&BORDER_DEVICES);
+            random.pick(&[any, border])
+        }
+    }
+}
+
+/// A number that a version's field holds and no device of it has.
+pub fn no_device(random: &mut Random, version: Version) -> u32 {
+    let (first, last) = (version.devices(), version.last_number());
+    let any = random.between(first.into(), last.into()) as u32;
+    match version {
+        Version::One => any,
+        Version::Two => {
+            let border = random.pick(&BORDER_REFUSALS);
+            random.pick(&[any, border])
+        }
+    }
+}
+
 /// Any device, and some that are none. Mostly it is one that came before: few
 /// of the others come often enough to earn.
-fn any_device(random: &mut Random, keeper: &Keeper) -> u8 {
+fn likely_device(random: &mut Random, version: Version, keeper: &Keeper) -> u32 {
+    let last = u64::from(version.devices()) - 1;
     match random.below(10) {
         0 | 1 => 0,
-        2..=6 => one_that_came(random, keeper),
-        9 => random.between(15, 20) as u8,
-        _ => random.between(0, 16) as u8,
+        2..=6 => one_that_came(random, version, keeper),
+        7 => any_device(random, version),
+        8 => random.between(last, last + 5) as u32,
+        _ => random.pick(&[14, 15, 16, 17, 254, 255, version.last_number()]),
     }
 }
 
 /// A device of which an event came, or any where none did.
-fn one_that_came(random: &mut Random, keeper: &Keeper) -> u8 {
-    let mut devices: Vec<u8> = (0..DEVICES as u8).collect();
-    if keeper.timers.iter().any(|timer| timer.came > 0) {
-        devices.retain(|device| keeper.timers[usize::from(*device)].came > 0);
+fn one_that_came(random: &mut Random, version: Version, keeper: &Keeper) -> u32 {
+    let came = keeper.timers.iter().enumerate();
+    let came = came.filter(|(_, timer)| timer.came > 0);
+    let devices: Vec<u32> = came.map(|(device, _)| device as u32).collect();
+    match devices[..] {
+        [] => any_device(random, version),
+        _ => random.pick(&devices),
     }
-    random.pick(&devices)
 }
 
-/// Any record at all. `large` allows bytes up to the longest.
-pub fn any_record(random: &mut Random, keeper: &Keeper, now: u32, large: bool) -> Record<'static> {
+/// Any record at all that a journal of this version may hold. `large` allows bytes
+/// up to the longest.
+pub fn any_record(
+    random: &mut Random,
+    version: Version,
+    keeper: &Keeper,
+    now: u32,
+    large: bool,
+) -> Record<'static> {
     match random.below(12) {
         0..=3 => {
-            let device = any_device(random, keeper);
+            let device = likely_device(random, version, keeper);
             // Repeated values matter on device 0 and must not on others.
             let other = random.u32();
             let value = random.pick(&[keeper.last_value, 0, 1, other, other]);

@@ -2,15 +2,17 @@
 
 use std::borrow::Cow;
 
+use super::anything::version;
 use super::cuts::one_of_each;
+use super::draft::Draft;
 use super::mixes::mix;
-use crate::journal::{self, Record, HEADER, LARGEST};
+use crate::journal::{self, Record, Version, HEADER, LARGEST};
 use crate::keeper::LONGEST;
 use crate::random::Random;
 
 /// The bytes at which the records of a good journal begin, and its end.
-fn bounds(journal: &[u8]) -> Vec<usize> {
-    let mut records = journal::Records::new(&journal[HEADER..]);
+fn bounds(version: Version, journal: &[u8]) -> Vec<usize> {
+    let mut records = journal::Records::new(version, &journal[HEADER..]);
     let mut bounds = vec![HEADER];
     while records.next().is_some() {
         bounds.push(journal.len() - records.rest().len());
@@ -20,10 +22,14 @@ fn bounds(journal: &[u8]) -> Vec<usize> {
 
 /// A good journal with one fault, each sort of fault in turn.
 pub fn damaged(random: &mut Random, turn: u64) -> Vec<u8> {
-    let mut journal = match random.below(3) {
-        0 => one_of_each(random).bytes,
-        _ => mix(random).bytes,
+    let version = version(random);
+    let draft = match random.below(3) {
+        0 => one_of_each(random, version, 171),
+        _ => mix(random, version),
     };
+    let Draft {
+        bytes: mut journal, ..
+    } = draft;
     match turn % 8 {
         0 => {
             let cut = random.below(journal.len() as u64) as usize;
@@ -40,7 +46,7 @@ pub fn damaged(random: &mut Random, turn: u64) -> Vec<u8> {
             journal[at] ^= 1 << random.below(8);
         }
         3 => {
-            let at = random.pick(&bounds(&journal));
+            let at = random.pick(&bounds(version, &journal));
             let other = random.between(7, 255) as u8;
             let kind = random.pick(&[0, 7, 8, 255, other]);
             if at < journal.len() && random.one_in(2) {
@@ -50,19 +56,21 @@ pub fn damaged(random: &mut Random, turn: u64) -> Vec<u8> {
             }
         }
         4 => {
-            let other = random.below(65_536) as u16;
-            let version = random.pick(&[0, 2, 256, 257, 255, other]);
-            journal[3..5].copy_from_slice(&version.to_le_bytes());
+            // With the other version's number, events begin or end elsewhere.
+            let any = random.below(65_536) as u16;
+            let number = random.pick(&[0, 3, 255, 256, 257, 258, 513, 65_535, any]);
+            let number = random.pick(&[number, number, version.other().number()]);
+            journal[3..5].copy_from_slice(&number.to_le_bytes());
         }
         5 => {
             let at = random.below(3) as usize;
             journal[at] = random.pick(&[0, b'N', b'K', b'J', b'n', 255, journal[at] ^ 32]);
         }
-        6 => long_record(random, &mut journal),
+        6 => long_record(random, version, &mut journal),
         _ => match turn / 8 % 4 {
-            0 => largest(random, &mut journal),
-            1 => too_large(random, &mut journal),
-            _ => long_record(random, &mut journal),
+            0 => largest(random, version, &mut journal),
+            1 => too_large(random, version, &mut journal),
+            _ => long_record(random, version, &mut journal),
         },
     }
     journal
@@ -70,8 +78,8 @@ pub fn damaged(random: &mut Random, turn: u64) -> Vec<u8> {
 
 /// Puts in a write or seed that names too great a length, with all of its
 /// bytes, some or none, or with its fields cut.
-fn long_record(random: &mut Random, journal: &mut Vec<u8>) {
-    let bounds = bounds(journal);
+fn long_record(random: &mut Random, version: Version, journal: &mut Vec<u8>) {
+    let bounds = bounds(version, journal);
     let at = random.pick(&bounds);
     let length: u16 = random.pick(&[4_096, 4_097, 4_097, 4_098, 8_192, 65_535]);
     let kind = random.pick(&[3, 4]);
@@ -102,7 +110,7 @@ fn long_record(random: &mut Random, journal: &mut Vec<u8>) {
 }
 
 /// Fills a journal up to the largest size.
-fn largest(random: &mut Random, journal: &mut Vec<u8>) {
+fn largest(random: &mut Random, version: Version, journal: &mut Vec<u8>) {
     while journal.len() < LARGEST {
         let left = LARGEST - journal.len();
         if left < 7 {
@@ -115,13 +123,13 @@ fn largest(random: &mut Random, journal: &mut Vec<u8>) {
             room => LONGEST.min(room - 7),
         };
         let bytes = Cow::Owned(random.bytes(length));
-        Record::Write { now: 0, bytes }.write(journal);
+        Record::Write { now: 0, bytes }.write(version, journal);
     }
 }
 
 /// Fills a journal up to one byte more than that.
-fn too_large(random: &mut Random, journal: &mut Vec<u8>) {
-    largest(random, journal);
+fn too_large(random: &mut Random, version: Version, journal: &mut Vec<u8>) {
+    largest(random, version, journal);
     journal.push(5);
     if !random.one_in(3) {
         // The size counts before anything else that is wrong.

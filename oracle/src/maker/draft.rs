@@ -2,9 +2,10 @@
 
 use std::borrow::Cow;
 
+use super::anything::{any_device, first_clock, start, version};
 use super::HALF;
 use crate::credits::{clock_difference, credited};
-use crate::journal::{self, Record};
+use crate::journal::{self, Record, Version};
 use crate::keeper::{least_bytes, Keeper, LONGEST, START};
 use crate::pools::INPUT;
 use crate::random::Random;
@@ -17,26 +18,54 @@ const FAR: u32 = 1 << 20;
 /// A journal being made, with a keeper that follows it: what to try next
 /// often depends on the counts so far.
 pub struct Draft {
+    pub version: Version,
     pub bytes: Vec<u8>,
     pub keeper: Keeper,
     pub now: u32,
 }
 
 impl Draft {
-    pub fn new(start: [u8; START], now: u32) -> Draft {
+    pub fn new(version: Version, start: [u8; START], now: u32) -> Draft {
         Draft {
-            bytes: journal::header(&start),
+            version,
+            bytes: journal::header(version, &start),
             keeper: Keeper::make(&start).expect("the start has its length"),
             now,
         }
     }
 
-    pub fn add(&mut self, record: Record) {
-        record.write(&mut self.bytes);
-        perform(&mut self.keeper, &record);
+    /// Of either version, with any start and any clock.
+    pub fn any(random: &mut Random) -> Draft {
+        let version = version(random);
+        Draft::of(random, version)
     }
 
-    pub fn device(&mut self, random: &mut Random, device: u8, now: u32) {
+    /// Of this version, with any start and any clock.
+    pub fn of(random: &mut Random, version: Version) -> Draft {
+        Draft::new(version, start(random), first_clock(random))
+    }
+
+    pub fn add(&mut self, record: Record) {
+        record.write(self.version, &mut self.bytes);
+        perform(self.version, &mut self.keeper, &record);
+    }
+
+    /// A device that the journal's version has.
+    pub fn any_device(&self, random: &mut Random) -> u32 {
+        any_device(random, self.version)
+    }
+
+    /// As many devices as version 1 has, one after the other; of version 2 they may
+    /// lie across a border.
+    pub fn sixteen_devices(&self, random: &mut Random) -> std::ops::Range<u32> {
+        let first = match self.version {
+            Version::One => 0,
+            Version::Two => random.pick(&[0, 8, 120, 248, 504, 1_008]),
+        };
+        first..first + Version::One.devices()
+    }
+
+    pub fn device(&mut self, random: &mut Random, device: u32, now: u32) {
         let value = random.u32();
         self.add(Record::Device {
             now,
@@ -48,7 +77,7 @@ impl Draft {
 
     /// Three events of a new device, which earn nothing, the last at this clock.
     /// The next one earns what its ticks from there are worth.
-    pub fn introduce(&mut self, random: &mut Random, device: u8, last: u32) {
+    pub fn introduce(&mut self, random: &mut Random, device: u32, last: u32) {
         let far = random.pick(&[FAR, FAR.wrapping_neg()]);
         for now in [last, last.wrapping_add(far), last] {
             self.device(random, device, now);
@@ -57,14 +86,14 @@ impl Draft {
 
     /// A new device's fourth event, so many ticks after its third. They alone
     /// decide what it earns.
-    pub fn fourth_event(&mut self, random: &mut Random, device: u8, ticks: u32) {
+    pub fn fourth_event(&mut self, random: &mut Random, device: u32, ticks: u32) {
         self.introduce(random, device, self.now);
         self.device(random, device, self.now.wrapping_add(ticks));
     }
 
     /// An event that is worth something by its differences, so that it tells
     /// whether its device earns.
-    pub fn worthy_event(&mut self, random: &mut Random, device: u8) {
+    pub fn worthy_event(&mut self, random: &mut Random, device: u32) {
         let now = self.worthy_clock(random, device);
         self.device(random, device, now);
     }
@@ -72,16 +101,21 @@ impl Draft {
     /// An event of device 0 with its last value, which would be worth something
     /// if it were kept.
     pub fn repeated(&mut self, random: &mut Random) {
+        self.value_of_device_0(random, 0);
+    }
+
+    /// An event that has the value which device 0 told last.
+    pub fn value_of_device_0(&mut self, random: &mut Random, device: u32) {
         self.add(Record::Device {
-            now: self.worthy_clock(random, 0),
-            device: 0,
+            now: self.worthy_clock(random, device),
+            device,
             stamp: random.u64(),
             value: self.keeper.last_value,
         });
     }
 
-    fn worthy_clock(&self, random: &mut Random, device: u8) -> u32 {
-        let timer = &self.keeper.timers[usize::from(device)];
+    fn worthy_clock(&self, random: &mut Random, device: u32) -> u32 {
+        let timer = &self.keeper.timers[device as usize];
         loop {
             let ticks = random.between(2, 100_000) as u32;
             let ticks = random.pick(&[ticks, ticks.wrapping_neg()]);
@@ -93,8 +127,8 @@ impl Draft {
     }
 
     /// An event within one tick of the last, which is worth nothing.
-    pub fn worthless_event(&mut self, random: &mut Random, device: u8) {
-        let clock = self.keeper.timers[usize::from(device)].clock;
+    pub fn worthless_event(&mut self, random: &mut Random, device: u32) {
+        let clock = self.keeper.timers[device as usize].clock;
         let ticks = random.pick(&[0, 1, u32::MAX]);
         self.device(random, device, clock.wrapping_add(ticks));
     }
@@ -236,7 +270,7 @@ mod tests {
     fn steering_reaches_its_target() {
         let mut random = Random::new(0, 0);
         for target in [63, 64, 65, 511, 512, 513, 1_019, 1_023] {
-            let mut draft = Draft::new([0; START], 0);
+            let mut draft = Draft::new(Version::Two, [0; START], 0);
             draft.steer(&mut random, target);
             assert_eq!(draft.keeper.input.count, target);
         }
@@ -248,10 +282,10 @@ mod tests {
         for last in [0, 77, 1 << 31, u32::MAX] {
             for (ticks, units) in [(0, 0), (1, 0), (2, 6), (4, 12), (2_047, 60), (4_096, 66)] {
                 for now in [last.wrapping_add(ticks), last.wrapping_sub(ticks)] {
-                    let mut draft = Draft::new([0; START], 0);
-                    draft.introduce(&mut random, 5, last);
+                    let mut draft = Draft::new(Version::Two, [0; START], 0);
+                    draft.introduce(&mut random, 1_023, last);
                     assert_eq!(draft.keeper.input.count, 0);
-                    draft.device(&mut random, 5, now);
+                    draft.device(&mut random, 1_023, now);
                     assert_eq!(draft.keeper.input.count, units);
                 }
             }

@@ -1,25 +1,27 @@
 //! Headers of each length, with letters or a version that are not right.
 
-use crate::journal::{HEADER, MARK, VERSION};
+use crate::journal::{Version, HEADER, MARK};
 use crate::keeper::START;
 use crate::random::Random;
 
 /// Those with a wrong low byte come first.
-const WRONG_VERSIONS: [u16; 6] = [0, 2, 255, 256, 65_535, 257];
-const WRONG_LOW_BYTE: usize = 5;
+const WRONG_VERSIONS: [u16; 9] = [0, 3, 255, 256, 512, 65_535, 257, 258, 513];
+const WRONG_LOW_BYTE: usize = 6;
 
-/// A round of all lengths has wrong letters, and the next one right letters
-/// and a wrong version. The seed sets which fault meets which length.
+/// A round of all lengths has wrong letters, the next one right letters and a
+/// wrong version, and the third is right, of version 1; journals of version 2 are
+/// cut in their headers too. The seed sets which fault meets which length.
 pub fn header(random: &mut Random, seed: u64, turn: u64) -> Vec<u8> {
     let lengths = HEADER as u64 + 1;
     let length = (turn % lengths) as usize;
     let sort = seed.wrapping_add(turn);
-    let (letters, version) = match turn / lengths % 2 {
+    let (letters, version) = match turn / lengths % 3 {
         0 => (
             wrong_letters(random, sort, length),
             any_version(random, turn),
         ),
-        _ => (MARK, wrong_version(random, sort, length)),
+        1 => (MARK, wrong_version(random, sort, length)),
+        _ => (MARK, Version::One.number()),
     };
     let mut header = letters.to_vec();
     header.extend(version.to_le_bytes());
@@ -42,10 +44,10 @@ fn wrong_letters(random: &mut Random, sort: u64, length: usize) -> [u8; 3] {
     letters
 }
 
-/// The right version and a wrong one in turn.
+/// A right version and a wrong one in turn.
 fn any_version(random: &mut Random, turn: u64) -> u16 {
     match turn % 2 {
-        0 => VERSION,
+        0 => random.pick(&Version::ALL).number(),
         _ => random.pick(&WRONG_VERSIONS),
     }
 }
@@ -68,14 +70,15 @@ mod tests {
     use crate::watch::Shown;
 
     #[test]
-    fn two_rounds_show_each_fault_and_each_length_with_either_fault() {
+    fn three_rounds_show_each_fault_and_each_length_with_either_fault_and_with_none() {
         for seed in [0, 1, 2, 3, 4, 5, 6, u64::MAX - 50] {
             let mut shown = Shown::default();
-            for turn in 0..108 {
+            for turn in 0..162 {
                 let random = &mut Random::new(seed, turn);
                 shown.add(&Shown::by(&header(random, seed, turn)));
             }
-            let faults: [Situation; 8] = [
+            let faults: [Situation; 9] = [
+                HeaderRight(Version::One),
                 HeaderLetters,
                 HeaderVersion,
                 OneLetterWrong,

@@ -19,15 +19,20 @@ pub fn unknown_kind(random: &mut Random, turn: u64, draft: &mut Draft) {
         draft.bytes.push(kind);
         return;
     }
-    let mut record = any_record(random, &draft.keeper, draft.now, false).to_bytes();
+    let version = draft.version;
+    let any = |random: &mut Random| {
+        any_record(random, version, &draft.keeper, draft.now, false).to_bytes(version)
+    };
+    let mut record = any(random);
     record[0] = kind;
+    record.extend(any(random));
     draft.bytes.extend(record);
-    any_record(random, &draft.keeper, draft.now, false).write(&mut draft.bytes);
 }
 
 #[cfg(test)]
 mod tests {
     use super::*;
+    use crate::journal::Version;
     use crate::situations::Situation;
     use crate::watch::Shown;
 
@@ -35,7 +40,8 @@ mod tests {
     fn five_hundred_turns_show_all_unknown_kinds_both_ways() {
         let mut shown = Shown::default();
         for turn in 0..2 * UNKNOWN {
-            let mut draft = Draft::new([0; 48], 0);
+            let version = Version::ALL[turn as usize / 2 % 2];
+            let mut draft = Draft::new(version, [0; 48], 0);
             unknown_kind(&mut Random::new(1, turn), turn, &mut draft);
             shown.add(&Shown::by(&draft.bytes));
         }

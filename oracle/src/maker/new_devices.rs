@@ -1,16 +1,14 @@
 //! Devices from their first event on: three earn nothing, whatever they are
 //! worth, and the fourth is the first that earns.
 
-use super::anything::{first_clock, start};
 use super::draft::Draft;
 use super::HALF;
-use crate::keeper::DEVICES;
 use crate::random::Random;
 
 /// Each of five sorts in turn, and in each the places where something comes in
 /// between.
 pub fn new_devices(random: &mut Random, turn: u64) -> Vec<u8> {
-    let mut draft = Draft::new(start(random), first_clock(random));
+    let mut draft = Draft::any(random);
     let round = turn / 5;
     match turn % 5 {
         0 => repeated_in_between(&mut draft, random, round % 3),
@@ -23,8 +21,14 @@ pub fn new_devices(random: &mut Random, turn: u64) -> Vec<u8> {
     draft.bytes
 }
 
-fn any_device(random: &mut Random) -> u8 {
-    random.below(DEVICES as u64) as u8
+/// So many devices that lie one behind the other, from any one on; behind the last
+/// comes the first again.
+fn neighbours(draft: &Draft, random: &mut Random, count: u32) -> Vec<u32> {
+    let first = draft.any_device(random);
+    let devices = draft.version.devices();
+    (first..first + count)
+        .map(|device| device % devices)
+        .collect()
 }
 
 /// Five events of device 0. Before the one at this place, counted from 0, comes
@@ -43,9 +47,7 @@ fn repeated_in_between(draft: &mut Draft, random: &mut Random, place: u64) {
 /// Five events of each of eleven devices, which begin at clocks whose
 /// differences with zero are worth 1 bit, 2 bits and so on.
 fn first_clocks(draft: &mut Draft, random: &mut Random) {
-    let first = any_device(random);
-    for bits in 1..=11 {
-        let device = (first + bits) % DEVICES as u8;
+    for (bits, device) in (1..).zip(neighbours(draft, random, 11)) {
         let now = clock_worth(random, bits);
         draft.device(random, device, now);
         for _ in 0..4 {
@@ -67,8 +69,9 @@ fn clock_worth(random: &mut Random, bits: u8) -> u32 {
 }
 
 fn two_in_turn(draft: &mut Draft, random: &mut Random) {
-    let one = any_device(random);
-    let other = (one + random.between(1, DEVICES as u64 - 1) as u8) % DEVICES as u8;
+    let devices = draft.version.devices();
+    let one = draft.any_device(random);
+    let other = (one + random.between(1, u64::from(devices) - 1) as u32) % devices;
     for _ in 0..5 {
         draft.worthy_event(random, one);
         draft.worthy_event(random, other);
@@ -79,7 +82,7 @@ fn two_in_turn(draft: &mut Draft, random: &mut Random) {
 /// does the fourth where it is to be worth nothing; the fifth then seeds it.
 fn seeding(draft: &mut Draft, random: &mut Random, by_the_fifth: bool) {
     draft.just_unseeded(random);
-    let device = any_device(random);
+    let device = draft.any_device(random);
     for _ in 0..3 {
         draft.worthy_event(random, device);
         draft.generator(draft.now, 1);
@@ -93,9 +96,7 @@ fn seeding(draft: &mut Draft, random: &mut Random, by_the_fifth: bool) {
 /// Of three devices, the first, second or third event is worth nothing. It
 /// counts all the same.
 fn worth_nothing(draft: &mut Draft, random: &mut Random) {
-    let first = any_device(random);
-    for place in 0..3 {
-        let device = (first + place) % DEVICES as u8;
+    for (place, device) in neighbours(draft, random, 3).into_iter().enumerate() {
         for event in 0..5 {
             match event == place {
                 true => draft.worthless_event(random, device),
@@ -108,17 +109,14 @@ fn worth_nothing(draft: &mut Draft, random: &mut Random) {
 #[cfg(test)]
 mod tests {
     use super::*;
+    use crate::journal::Version;
     use crate::situations::Situation::{self, *};
     use crate::watch::Shown;
 
     /// What each sort has to show in each of its journals, but for the place
     /// of what comes in between.
     const EACH: [&[(Situation, u32)]; 5] = [
-        &[
-            (Answer(7), 0),
-            (EarnsFromTheFourthOn, 0),
-            (KnownDeviceEarns, 5),
-        ],
+        &[(Answer(7), 0), (KnownDeviceEarns, 5)],
         &[(FirstClockEarnsNothing, 1), (FirstClockEarnsNothing, 11)],
         &[(TwoDevicesInTurn, 0)],
         &[
@@ -140,6 +138,11 @@ mod tests {
             let shown = Shown::by(&journal);
             for (situation, value) in EACH[turn as usize % 5] {
                 assert!(shown.times(*situation, *value) > 0, "turn {turn}");
+            }
+            if turn % 5 == 0 {
+                let from_the_fourth = |version| shown.times(EarnsFromTheFourthOn(version), 0);
+                let times: u64 = Version::ALL.map(from_the_fourth).iter().sum();
+                assert!(times > 0, "turn {turn}");
             }
             let in_between = match (turn % 5, turn / 5) {
                 (0, round) => (RepeatedDoesNotCount, round as u32 % 3),

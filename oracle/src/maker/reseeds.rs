@@ -1,8 +1,7 @@
 //! A reseed that is due, or just not due, after each way of first seeding.
 
-use super::anything::start;
+use super::anything::{start, version};
 use super::draft::Draft;
-use crate::keeper::DEVICES;
 use crate::random::Random;
 
 /// Seeds a keeper by a device event, an interrupt or a seed in turn, gives it
@@ -11,7 +10,7 @@ pub fn reseed(random: &mut Random, turn: u64) -> Vec<u8> {
     let round = turn / 3;
     let clock = seeding_clock(random, round);
     // Seeds before and after it have clocks of their own, which must not count.
-    let mut draft = Draft::new(start(random), random.u32());
+    let mut draft = Draft::new(version(random), start(random), random.u32());
     match turn % 3 {
         0 => seed_by_event(&mut draft, random, clock),
         1 => seed_by_interrupt(&mut draft, random, clock),
@@ -36,19 +35,19 @@ fn seeding_clock(random: &mut Random, round: u64) -> u32 {
     clock as u32
 }
 
-/// By the fourth events of all devices, which are worth enough together, or by
+/// By the fourth events of sixteen devices, which are worth enough together, or by
 /// one such event after seeds that just do not do it. No event before a fourth
 /// earns.
 fn seed_by_event(draft: &mut Draft, random: &mut Random, clock: u32) {
     if random.one_in(2) {
         draft.just_unseeded(random);
-        let device = random.below(DEVICES as u64) as u8;
+        let device = draft.any_device(random);
         let ticks = random.between(2, 5_000) as u32;
         draft.introduce(random, device, clock.wrapping_sub(ticks));
         draft.device(random, device, clock);
         return;
     }
-    for device in (0..DEVICES as u8).rev() {
+    for device in draft.sixteen_devices(random).rev() {
         let ticks = random.between(2_048, 5_000) as u32;
         draft.introduce(random, device, clock.wrapping_sub(ticks));
         draft.device(random, device, clock);

@@ -1,6 +1,6 @@
 //! A spill by time at each tally, and the spill by number after it.
 
-use super::anything::start;
+use super::anything::{start, version};
 use super::draft::Draft;
 use super::HALF;
 use crate::random::Random;
@@ -10,7 +10,7 @@ use crate::random::Random;
 pub fn timed_spill(random: &mut Random, turn: u64) -> Vec<u8> {
     let tally = turn % 63 + 1;
     let first = first_spill(random, turn);
-    let mut draft = Draft::new(start(random), first);
+    let mut draft = Draft::new(version(random), start(random), first);
     if first != draft.keeper.last_spill {
         draft.wait_for_a_spill(random, first);
         draft.interrupt(random, first);

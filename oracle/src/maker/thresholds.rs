@@ -1,13 +1,12 @@
 //! Journals that go close to a threshold: counts, clocks, tallies, lengths.
 
-use super::anything::{first_clock, start};
 use super::draft::Draft;
 use super::HALF;
 use crate::pools::INPUT;
 use crate::random::Random;
 
 pub fn threshold(random: &mut Random, turn: u64) -> Vec<u8> {
-    let mut draft = Draft::new(start(random), first_clock(random));
+    let mut draft = Draft::any(random);
     match turn % 10 {
         0 => first_seeding(&mut draft, random),
         1 => low_counts(&mut draft, random),
@@ -64,7 +63,8 @@ fn low_counts(draft: &mut Draft, random: &mut Random) {
         }
         _ => {
             let ticks = random.pick(&[0, 1, 2, 3, 4]);
-            draft.fourth_event(random, 9, ticks);
+            let device = draft.any_device(random);
+            draft.fourth_event(random, device, ticks);
         }
     }
     draft.probe(random);
@@ -79,7 +79,7 @@ fn high_counts(draft: &mut Draft, random: &mut Random) {
     let first = random.pick(&[2_048, 4_095, 4_096, 4_097, 8_192, 16_384]);
     draft.credit(random, first);
     draft.steer(random, aim);
-    for device in 0..4 {
+    for device in draft.sixteen_devices(random).take(4) {
         match random.below(4) {
             0 => draft.spill(random),
             1 => {
@@ -129,10 +129,10 @@ fn seeding_clocks(draft: &mut Draft, random: &mut Random) {
 /// Device events whose differences lie where the credit or the sign turns.
 fn event_clocks(draft: &mut Draft, random: &mut Random) {
     // Few enough devices for most events to earn.
-    let devices = [random.pick(&[0, 1, 2]), random.pick(&[14, 15])];
+    let devices = [random.pick(&[0, 1, 2]), draft.any_device(random)];
     for _ in 0..random.between(6, 40) {
         let device = random.pick(&devices);
-        let timer = draft.keeper.timers[usize::from(device)];
+        let timer = draft.keeper.timers[device as usize];
         let distance = random.pick(&[0, 1, 2, 4, 8, 256, 1_024, 2_048, 4_096, 65_536, HALF, HALF]);
         // At a distance from the last clock, or from where a steady device
         // would be next, so that the second difference is the small one.
@@ -209,7 +209,8 @@ fn seeding_by_events(draft: &mut Draft, random: &mut Random) {
     let aim = random.pick(&[1_000, 1_010, 1_017, 1_018, 1_019, 1_022, 1_023]);
     draft.steer(random, aim);
     draft.probe(random);
-    for i in 0..random.between(1, 6) {
+    let most = random.between(1, 6) as usize;
+    for device in draft.sixteen_devices(random).skip(1).take(most) {
         match random.below(3) {
             0 => {
                 draft.spill(random);
@@ -217,7 +218,7 @@ fn seeding_by_events(draft: &mut Draft, random: &mut Random) {
             }
             1 => {
                 let ticks = random.pick(&[1, 2, 4, 8, 4_096]);
-                draft.fourth_event(random, i as u8 + 1, ticks);
+                draft.fourth_event(random, device, ticks);
             }
             _ => draft.credit(random, 1),
         }

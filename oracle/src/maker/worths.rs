@@ -1,16 +1,16 @@
 //! What credits are worth: nothing to a pool that is nearly full, more than is
 //! left where a key or a reader takes it at once, and several turns of it.
 
-use super::anything::{first_clock, start};
+use super::anything::no_device;
 use super::draft::Draft;
 use crate::journal::Record;
-use crate::keeper::{DEVICES, LONGEST};
+use crate::keeper::LONGEST;
 use crate::pools::INPUT;
 use crate::random::Random;
 
 /// Each of four sorts in turn.
 pub fn worths(random: &mut Random, turn: u64) -> Vec<u8> {
-    let mut draft = Draft::new(start(random), first_clock(random));
+    let mut draft = Draft::any(random);
     let round = turn / 4;
     match turn % 4 {
         0 => nearly_full(&mut draft, random, round % 4 == 3),
@@ -39,7 +39,7 @@ fn nearly_full(draft: &mut Draft, random: &mut Random, to_the_last_units: bool) 
             0 => draft.spill(random),
             1 => {
                 let most = if to_the_last_units { 5_000 } else { 3 };
-                let device = random.below(DEVICES as u64) as u8;
+                let device = draft.any_device(random);
                 let ticks = random.between(2, most) as u32;
                 draft.fourth_event(random, device, ticks);
             }
@@ -110,7 +110,7 @@ fn refused(draft: &mut Draft, random: &mut Random, number: u8) {
         2 => draft.generator(draft.now, length),
         3 => draft.generator(draft.now, too_long),
         4 => {
-            let device = random.between(DEVICES as u64, 255) as u8;
+            let device = no_device(random, draft.version);
             draft.device(random, device, draft.now);
         }
         5 => draft.seed(random, 8 * u32::from(length) + 1, length.into()),
@@ -197,7 +197,7 @@ mod tests {
     fn the_last_seed_of_a_nearly_full_pool_adds_one_unit() {
         for number in 0..60 {
             let random = &mut Random::new(10, number);
-            let mut draft = Draft::new(start(random), first_clock(random));
+            let mut draft = Draft::any(random);
             nearly_full(&mut draft, random, number % 2 == 1);
             let count = draft.keeper.input.count;
             assert!((27_308..INPUT.size - 1).contains(&count), "{count}");

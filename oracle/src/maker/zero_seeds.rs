@@ -1,13 +1,12 @@
 //! Seeds that credit nothing onto a count that would seed a keeper.
 
-use super::anything::{first_clock, start};
 use super::draft::Draft;
 use crate::random::Random;
 
 /// Their bytes are mixed in and nothing else happens. A read shows that the
 /// key is the same; a reseed or a blocking read brings the bytes out.
 pub fn zero_seed(random: &mut Random, turn: u64) -> Vec<u8> {
-    let mut draft = Draft::new(start(random), first_clock(random));
+    let mut draft = Draft::any(random);
     let bits = random.between(171, 600) as u32;
     draft.credit(random, bits);
     let count = random.pick(&[1_024, 1_025, 1_500, 2_047, 2_048, 4_000]);

@@ -3,12 +3,13 @@
 use std::io;
 
 use super::cases::{damaged, index_of, look, telling};
-use super::{Trial, INDEX, JOURNAL, MORE};
+use super::{INDEX, MORE};
 use crate::index;
-use crate::journal::LARGEST;
+use crate::journal::{Version, LARGEST};
 use crate::maker::in_turn;
 use crate::maker::sized::{self, Fault};
 use crate::random::Random;
+use crate::trial::{Trial, JOURNAL};
 
 #[derive(Clone, Copy, PartialEq)]
 enum Sort {
@@ -34,27 +35,27 @@ const SORTS: [Sort; 10] = [
 ];
 
 /// A good journal of a sort. One in two of the largest has not a byte to spare.
-fn good(random: &mut Random, sort: Sort) -> Vec<u8> {
+fn good(random: &mut Random, version: Version, sort: Sort) -> Vec<u8> {
     let up_to = |random: &mut Random, most| random.between(0, most) as usize;
     let spare = random.below(2) * random.below(300);
     let size = LARGEST - spare as usize;
     match sort {
         Sort::Few => {
             let count = up_to(random, 20);
-            sized::of_records(random, count)
+            sized::of_records(random, version, count)
         }
         Sort::Many | Sort::Broken => {
             let count = up_to(random, 200);
-            sized::of_records(random, count)
+            sized::of_records(random, version, count)
         }
         Sort::Tiny => {
-            let mut journal = sized::of_records(random, 3);
+            let mut journal = sized::of_records(random, version, 3);
             sized::fill_with_tiny(random, &mut journal, size);
             journal
         }
         Sort::Large => {
             let count = up_to(random, 200);
-            let mut journal = sized::of_records(random, count);
+            let mut journal = sized::of_records(random, version, count);
             sized::fill_with_large(random, &mut journal, size);
             journal
         }
@@ -64,7 +65,9 @@ fn good(random: &mut Random, sort: Sort) -> Vec<u8> {
 /// Journal `number`, counted from 1: its index, look-ups and appendings.
 pub fn journal(trial: &mut Trial, random: &mut Random, number: u64) -> io::Result<()> {
     let (sort, turn) = in_turn(&SORTS, number - 1);
-    let mut journal = good(random, sort);
+    // Each sort comes in the other version in the next round.
+    let version = Version::ALL[(number as usize + number as usize / SORTS.len()) % 2];
+    let mut journal = good(random, version, sort);
     let index = index_of(&journal);
     if sort == Sort::Broken {
         let (fault, _) = in_turn(&Fault::ALL, turn);
@@ -80,7 +83,7 @@ pub fn journal(trial: &mut Trial, random: &mut Random, number: u64) -> io::Resul
     trial.run(&format!("{name}, its index"), &["index", JOURNAL, INDEX])?;
     trial.put(INDEX, &index);
     look_at_it(trial, random, &name)?;
-    append_to_it(trial, random, &name)?;
+    append_to_it(trial, random, version, &name)?;
     if sort == Sort::Broken {
         return Ok(());
     }
@@ -89,7 +92,7 @@ pub fn journal(trial: &mut Trial, random: &mut Random, number: u64) -> io::Resul
     let (how, wrong) = damaged(random, &trial.file(INDEX));
     trial.put(INDEX, &wrong);
     look_at_it(trial, random, &format!("{name}, index {how}"))?;
-    append_to_it(trial, random, &format!("{name}, index {how}"))
+    append_to_it(trial, random, version, &format!("{name}, index {how}"))
 }
 
 fn look_at_it(trial: &mut Trial, random: &mut Random, name: &str) -> io::Result<()> {
@@ -100,11 +103,18 @@ fn look_at_it(trial: &mut Trial, random: &mut Random, name: &str) -> io::Result<
 }
 
 /// Appends whole records, one time in three with a fault at their end.
-fn append_to_it(trial: &mut Trial, random: &mut Random, name: &str) -> io::Result<()> {
+fn append_to_it(
+    trial: &mut Trial,
+    random: &mut Random,
+    version: Version,
+    name: &str,
+) -> io::Result<()> {
     let count = random.pick(&[0, 1, 2, 30, 64, 70]);
-    let mut more = sized::part(random, count);
+    let mut more = sized::part(random, version, count);
     if random.one_in(3) {
-        random.pick(&Fault::OF_PARTS).put_last(random, &mut more);
+        random
+            .pick(&Fault::OF_PARTS)
+            .put_last(random, version, &mut more);
     }
     trial.put(MORE, &more);
     let name = format!("{name}, an appending");

@@ -1,15 +1,17 @@
 //! Sees what the events of devices show while these are new, and once they are
 //! not. It counts the events itself, and does not ask the keeper.
 
+use std::collections::BTreeSet;
+
 use super::Fields;
 use crate::credits::{credited, Credited};
-use crate::keeper::DEVICES;
+use crate::journal::Version;
 use crate::pools::INPUT;
 use crate::situations::{Situation, Situation::*};
 
 /// An event of a device that was kept.
 struct Kept {
-    device: usize,
+    device: u32,
     /// Which of its device's events it is, counted from 1.
     nth: u32,
     /// The bits that it is worth, earned or not.
@@ -45,14 +47,14 @@ pub struct NewDevices {
     /// How many of device 0's events had been kept when one was repeated, for
     /// each that was.
     repeated_after: Vec<u32>,
-    /// The device that a refused number has its low four bits in common with,
-    /// for each that was refused.
-    refused_like: Vec<usize>,
+    /// The device that a refused number has its low bits in common with, for each
+    /// that was refused.
+    refused_like: Vec<u32>,
 }
 
 impl NewDevices {
-    pub fn refused(&mut self, device: u8) {
-        self.refused_like.push(usize::from(device) % DEVICES);
+    pub fn refused(&mut self, version: Version, device: u32) {
+        self.refused_like.push(device % version.devices());
     }
 
     pub fn repeated(&mut self) {
@@ -62,12 +64,13 @@ impl NewDevices {
     /// What an event shows that was kept.
     pub fn kept(
         &mut self,
-        device: usize,
+        version: Version,
+        device: u32,
         now: u32,
         before: &Fields,
         after: &Fields,
     ) -> Vec<(Situation, u32)> {
-        let worth = before.timers[device].worth(now);
+        let worth = before.timer.worth(now);
         let Credited { count, added } = credited(before.count, INPUT.size, worth);
         self.kept.push(Kept {
             device,
@@ -78,8 +81,8 @@ impl NewDevices {
         });
         let event = &self.kept[self.kept.len() - 1];
         let mut shown = match event.is_new() {
-            true => self.by_a_new_device(event),
-            false => self.by_a_known_device(event),
+            true => self.by_a_new_device(version, event),
+            false => self.by_a_known_device(version, event),
         };
         if event.is_new() && !before.seeded && worth > 0 && count >= 1_024 && !after.seeded {
             shown.push((NewDeviceDoesNotSeed, event.nth));
@@ -93,15 +96,15 @@ impl NewDevices {
         shown
     }
 
-    fn came(&self, device: usize) -> u32 {
+    fn came(&self, device: u32) -> u32 {
         self.of(device).count() as u32
     }
 
-    fn of(&self, device: usize) -> impl Iterator<Item = &Kept> {
+    fn of(&self, device: u32) -> impl Iterator<Item = &Kept> {
         self.kept.iter().filter(move |kept| kept.device == device)
     }
 
-    fn by_a_new_device(&self, event: &Kept) -> Vec<(Situation, u32)> {
+    fn by_a_new_device(&self, version: Version, event: &Kept) -> Vec<(Situation, u32)> {
         let mut shown = Vec::new();
         if !event.shows_the_rule() {
             return shown;
@@ -115,13 +118,27 @@ impl NewDevices {
             let after = self.repeated_after.iter();
             shown.extend(after.map(|came| (RepeatedDoesNotCount, *came)));
         }
-        if event.nth == 3 && self.refused_like.contains(&event.device) {
-            shown.push((RefusedDoesNotCount, 0));
+        if event.nth == 3 {
+            if self.refused_like.contains(&event.device) {
+                shown.push((RefusedDoesNotCount(version), 0));
+            }
+            let others = self.distances_to_others(event.device);
+            shown.extend(others.map(|distance| (OtherDeviceDoesNotCount, distance)));
         }
         shown
     }
 
-    fn by_a_known_device(&self, event: &Kept) -> Vec<(Situation, u32)> {
+    /// How far the other devices lie from this one of which an event was kept.
+    fn distances_to_others(&self, device: u32) -> impl Iterator<Item = u32> {
+        let devices = self
+            .kept
+            .iter()
+            .map(move |kept| kept.device.abs_diff(device));
+        let distances: BTreeSet<u32> = devices.filter(|distance| *distance > 0).collect();
+        distances.into_iter()
+    }
+
+    fn by_a_known_device(&self, version: Version, event: &Kept) -> Vec<(Situation, u32)> {
         let mut shown = Vec::new();
         if !event.shows_the_rule() {
             return shown;
@@ -133,7 +150,7 @@ impl NewDevices {
             let worth_nothing = new().filter(|kept| kept.worth == 0);
             shown.extend(worth_nothing.map(|kept| (WorthNothingCounts, kept.nth)));
             if new().any(|kept| kept.nth == 3 && kept.shows_the_rule()) {
-                shown.push((EarnsFromTheFourthOn, event.device as u32));
+                shown.push((EarnsFromTheFourthOn(version), event.device));
             }
         }
         shown
@@ -159,7 +176,7 @@ impl NewDevices {
 
 #[cfg(test)]
 mod tests {
-    use crate::journal::{self, Record};
+    use crate::journal::{self, Record, Version};
     use crate::situations::{Situation, Situation::*};
     use crate::watch::Shown;
     use std::borrow::Cow;
@@ -167,11 +184,11 @@ mod tests {
     /// Clocks at which each of five events is worth something, the first 4 bits.
     const FIVE: [u32; 5] = [16, 80, 300, 800, 3_000];
 
-    fn event(device: u8, now: u32) -> Record<'static> {
+    fn event(device: u32, now: u32) -> Record<'static> {
         event_of(device, now, now + 1)
     }
 
-    fn event_of(device: u8, now: u32, value: u32) -> Record<'static> {
+    fn event_of(device: u32, now: u32, value: u32) -> Record<'static> {
         Record::Device {
             now,
             device,
@@ -188,23 +205,29 @@ mod tests {
         }
     }
 
-    fn five(device: u8) -> [Record<'static>; 5] {
+    fn five(device: u32) -> [Record<'static>; 5] {
         FIVE.map(|now| event(device, now))
     }
 
-    fn shown(records: &[Record]) -> Shown {
-        let mut journal = journal::header(&[7; 48]);
+    fn shown(version: Version, records: &[Record]) -> Shown {
+        let mut journal = journal::header(version, &[7; 48]);
         for record in records {
-            record.write(&mut journal);
+            record.write(version, &mut journal);
         }
         Shown::by(&journal)
     }
 
-    /// The values at which a situation comes up.
+    /// The values at which a situation comes up, the same in both versions.
     fn values(records: &[Record], situation: Situation) -> Vec<u32> {
-        let shown = shown(records);
+        let [one, two] = Version::ALL.map(|version| values_in(version, records, situation));
+        assert_eq!(one, two);
+        one
+    }
+
+    fn values_in(version: Version, records: &[Record], situation: Situation) -> Vec<u32> {
+        let shown = shown(version, records);
         let came_up = |value: &u32| shown.times(situation, *value) > 0;
-        (0..=20).filter(came_up).collect()
+        (0..=1_023).filter(came_up).collect()
     }
 
     #[test]
@@ -220,12 +243,12 @@ mod tests {
                 let events = &events[..count];
                 assert_eq!(values(events, NewDeviceEarnsNothing), new);
                 assert_eq!(values(events, KnownDeviceEarns), known);
-                let from_the_fourth = if count < 4 {
-                    vec![]
-                } else {
-                    vec![device.into()]
-                };
-                assert_eq!(values(events, EarnsFromTheFourthOn), from_the_fourth);
+                let from_the_fourth = if count < 4 { vec![] } else { vec![device] };
+                for version in Version::ALL {
+                    let situation = EarnsFromTheFourthOn(version);
+                    let values = values_in(version, events, situation);
+                    assert_eq!(values, from_the_fourth);
+                }
             }
             assert_eq!(values(&events, FirstClockEarnsNothing), [4]);
             assert_eq!(values(&events, TwoDevicesInTurn), []);
@@ -286,15 +309,44 @@ mod tests {
 
     #[test]
     fn refused_events_in_between() {
-        for (refused, times) in [(16 + 3, 1), (255, 0), (3, 0)] {
+        for (version, refused, times) in [
+            (Version::One, 16 + 3, 1),
+            (Version::One, 255, 0),
+            (Version::One, 3, 0),
+            (Version::Two, 1_024 + 3, 1),
+            (Version::Two, 63 * 1_024 + 3, 1),
+            (Version::Two, 16 + 3, 0),
+            (Version::Two, 65_535, 0),
+        ] {
             let mut events = five(3).to_vec();
             events.insert(2, event(refused, 9_999));
+            let situation = RefusedDoesNotCount(version);
             let times = &[0][..times];
-            assert_eq!(values(&events, RefusedDoesNotCount), times);
+            assert_eq!(values_in(version, &events, situation), times);
+            let other = RefusedDoesNotCount(version.other());
+            assert_eq!(values_in(version, &events, other), []);
         }
         let mut after = five(3).to_vec();
         after.insert(3, event(16 + 3, 9_999));
-        assert_eq!(values(&after, RefusedDoesNotCount), []);
+        let situation = RefusedDoesNotCount(Version::One);
+        assert_eq!(values_in(Version::One, &after, situation), []);
+    }
+
+    #[test]
+    fn events_of_other_devices_in_between() {
+        let values = |events: &[Record]| values_in(Version::Two, events, OtherDeviceDoesNotCount);
+        for other in [3 + 256, 3 + 16, 4, 3 + 512] {
+            let mut events = five(3).to_vec();
+            events.insert(2, event(other, 9_999));
+            assert_eq!(values(&events), [other - 3]);
+            // After the third it shows nothing, nor does one that is refused.
+            assert_eq!(values(&events[..3]), []);
+            events.swap(2, 3);
+            assert_eq!(values(&events), []);
+            events[3] = event(3, FIVE[2]);
+            events[2] = event(3 + 1_024, 9_999);
+            assert_eq!(values(&events), []);
+        }
     }
 
     #[test]
@@ -311,7 +363,7 @@ mod tests {
 
     #[test]
     fn two_devices_in_turn() {
-        let in_turn = |a: u8, b: u8| -> Vec<Record> {
+        let in_turn = |a: u32, b: u32| -> Vec<Record> {
             FIVE.iter()
                 .flat_map(|now| [event(a, *now), event(b, *now)])
                 .collect()

@@ -53,10 +53,7 @@ impl Crediting {
             size: INPUT.size,
         };
         match step.record {
-            Record::Device { now, device, .. } => {
-                let timer = &before.timers[usize::from(*device)];
-                Some(input(Creditor::Event, timer.earned(*now)))
-            }
+            Record::Device { now, .. } => Some(input(Creditor::Event, before.timer.earned(*now))),
             Record::Interrupt { .. } => {
                 let spilled = after.tally == 0;
                 Some(input(Creditor::Interrupt, u32::from(spilled)))

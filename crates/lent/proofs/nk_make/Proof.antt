@@ -47,8 +47,8 @@ module _ {M : Type 1} (𝓤 : URA M) (H : Heap 𝓤) (A : Atoms 𝓤) (W : Given
       (α-clocks ∷ [], (α-firsts ∷ [], (α-seconds ∷ [], (α-came ∷ [], (α-input ∷ [], (α-blocking ∷ [], (α-fast ∷ [], (α-generator ∷ [], (κ-start, tt))))))))),
       (fullShare, (fullShare, (fullShare, (fullShare, (fullShare, (fullShare, (fullShare, (fullShare, (q-start, tt))))))))),
       tt,
-      (h .ledger, (record { ptr = (b, (o + 44)); name = δ-clocks; now = h .clocks }, (record { ptr = (b, (o + 112)); name = δ-firsts; now = h .firsts }, (record { ptr = (b, (o + 240)); name = δ-seconds; now = h .seconds }, (record { ptr = (b, (o + 368)); name = δ-came; now = h .came }, (record { ptr = (b, (o + 384)); name = δ-input; now = h .input }, (record { ptr = (b, (o + 896)); name = δ-blocking; now = h .blocking }, (record { ptr = (b, (o + 1024)); name = δ-fast; now = h .fast }, (record { ptr = (b, (o + 1040)); name = δ-generator; now = h .generator }, (start-ref, tt)))))))))),
-      (lv (h .ledger) ∷ [], (vptr b (o + 44) ∷ [], (vptr b (o + 112) ∷ [], (vptr b (o + 240) ∷ [], (vptr b (o + 368) ∷ [], (vptr b (o + 384) ∷ [], (vptr b (o + 896) ∷ [], (vptr b (o + 1024) ∷ [], (vptr b (o + 1040) ∷ [], (start-val ∷ [], tt)))))))))),
+      (h .ledger, (record { ptr = (b, (o + 44)); name = δ-clocks; now = h .clocks }, (record { ptr = (b, (o + 4144)); name = δ-firsts; now = h .firsts }, (record { ptr = (b, (o + 12336)); name = δ-seconds; now = h .seconds }, (record { ptr = (b, (o + 20528)); name = δ-came; now = h .came }, (record { ptr = (b, (o + 21552)); name = δ-input; now = h .input }, (record { ptr = (b, (o + 22064)); name = δ-blocking; now = h .blocking }, (record { ptr = (b, (o + 22192)); name = δ-fast; now = h .fast }, (record { ptr = (b, (o + 22208)); name = δ-generator; now = h .generator }, (start-ref, tt)))))))))),
+      (lv (h .ledger) ∷ [], (vptr b (o + 44) ∷ [], (vptr b (o + 4144) ∷ [], (vptr b (o + 12336) ∷ [], (vptr b (o + 20528) ∷ [], (vptr b (o + 21552) ∷ [], (vptr b (o + 22064) ∷ [], (vptr b (o + 22192) ∷ [], (vptr b (o + 22208) ∷ [], (start-val ∷ [], tt)))))))))),
     ),
     tt,
   )
@@ -78,14 +78,14 @@ module _ {M : Type 1} (𝓤 : URA M) (H : Heap 𝓤) (A : Atoms 𝓤) (W : Given
         assigns ! (addr ! (from ! (hop ! (look ! 33 refl) (fld ! refl (stop !))))) (from ! (stop !)) (init ! 9 refl (tt, tt)) $
         -- the record is taken apart, and the arrays are lent
         apart ! h b o was $
-        move ! (1 ∷ []) $ lend ! tt (Array u32 16) (h .clocks) b (o + 44) (λ α-clocks δ-clocks.
-        move ! (4 ∷ []) $ lend ! tt (Array i64 16) (h .firsts) b (o + 112) (λ α-firsts δ-firsts.
-        move ! (7 ∷ []) $ lend ! tt (Array i64 16) (h .seconds) b (o + 240) (λ α-seconds δ-seconds.
-        move ! (10 ∷ []) $ lend ! tt (Array u8 16) (h .came) b (o + 368) (λ α-came δ-came.
-        move ! (13 ∷ []) $ lend ! tt (Array u32 128) (h .input) b (o + 384) (λ α-input δ-input.
-        move ! (16 ∷ []) $ lend ! tt (Array u32 32) (h .blocking) b (o + 896) (λ α-blocking δ-blocking.
-        move ! (19 ∷ []) $ lend ! tt (Array u32 4) (h .fast) b (o + 1024) (λ α-fast δ-fast.
-        move ! (22 ∷ []) $ lend ! tt (Array u32 16) (h .generator) b (o + 1040) (λ α-generator δ-generator.
+        move ! (1 ∷ []) $ lend ! tt (Array u32 1024) (h .clocks) b (o + 44) (λ α-clocks δ-clocks.
+        move ! (4 ∷ []) $ lend ! tt (Array i64 1024) (h .firsts) b (o + 4144) (λ α-firsts δ-firsts.
+        move ! (7 ∷ []) $ lend ! tt (Array i64 1024) (h .seconds) b (o + 12336) (λ α-seconds δ-seconds.
+        move ! (10 ∷ []) $ lend ! tt (Array u8 1024) (h .came) b (o + 20528) (λ α-came δ-came.
+        move ! (13 ∷ []) $ lend ! tt (Array u32 128) (h .input) b (o + 21552) (λ α-input δ-input.
+        move ! (16 ∷ []) $ lend ! tt (Array u32 32) (h .blocking) b (o + 22064) (λ α-blocking δ-blocking.
+        move ! (19 ∷ []) $ lend ! tt (Array u32 4) (h .fast) b (o + 22192) (λ α-fast δ-fast.
+        move ! (22 ∷ []) $ lend ! tt (Array u32 16) (h .generator) b (o + 22208) (λ α-generator δ-generator.
         -- what `make_on` asks: its arguments, and the tokens of their lifetimes
         nothing ! $ move ! (32 ∷ 0 ∷ []) $ fjoin ! $ move ! (1 ∷ 0 ∷ []) $ fjoin ! $ move ! (3 ∷ 0 ∷ []) $ fjoin ! $ move ! (5 ∷ 0 ∷ []) $ fjoin ! $ move ! (7 ∷ 0 ∷ []) $ fjoin ! $ move ! (9 ∷ 0 ∷ []) $ fjoin ! $ move ! (11 ∷ 0 ∷ []) $ fjoin ! $ move ! (13 ∷ 0 ∷ []) $ fjoin ! $ move ! (15 ∷ 0 ∷ []) $ fjoin ! $ l-owned ! (h .ledger) (its-ledger h was) $ fjoin ! $
         nothing ! $ move ! (23 ∷ 0 ∷ []) $ join ! $ move ! (2 ∷ 0 ∷ []) $ join ! $ move ! (3 ∷ 0 ∷ []) $ join ! $ move ! (4 ∷ 0 ∷ []) $ join ! $ move ! (5 ∷ 0 ∷ []) $ join ! $ move ! (6 ∷ 0 ∷ []) $ join ! $ move ! (7 ∷ 0 ∷ []) $ join ! $ move ! (8 ∷ 0 ∷ []) $ join ! $ move ! (9 ∷ 0 ∷ []) $ join ! $ join ! $ nothing ! $ move ! (1 ∷ 0 ∷ []) $ join ! $ use1 W (raw (Step 𝓤 H A mem′ run .pre (to-step α-clocks α-firsts α-seconds α-came α-input α-blocking α-fast α-generator δ-clocks δ-firsts δ-seconds δ-came δ-input δ-blocking δ-fast δ-generator))) (id⊢ 𝓤 _) $
@@ -96,7 +96,7 @@ module _ {M : Type 1} (𝓤 : URA M) (H : Heap 𝓤) (A : Atoms 𝓤) (W : Given
         move ! (9 ∷ []) $ use1 W (‵ (flft (α-clocks ∷ []) fullShare) ⊛ ‵ (flft (α-firsts ∷ []) fullShare) ⊛ ‵ (flft (α-seconds ∷ []) fullShare) ⊛ ‵ (flft (α-came ∷ []) fullShare) ⊛ ‵ (flft (α-input ∷ []) fullShare) ⊛ ‵ (flft (α-blocking ∷ []) fullShare) ⊛ ‵ (flft (α-fast ∷ []) fullShare) ⊛ ‵ (flft (α-generator ∷ []) fullShare) ⊛ ‵ (flft κ-start q-start) ⊛ ‵ ftrue) (id⊢ 𝓤 _) $ split ! $ move ! (1 ∷ []) $ split ! $ move ! (1 ∷ []) $ split ! $ move ! (1 ∷ []) $ split ! $ move ! (1 ∷ []) $ split ! $ move ! (1 ∷ []) $ split ! $ move ! (1 ∷ []) $ split ! $ move ! (1 ∷ []) $ split ! $ move ! (1 ∷ []) $ split ! $
         land ! (from ! (stop !)) (init ! 53 refl (d-typed W d v is)) $ rewrite ! 53 (done-at l₄) (d-is d v is) refl $
         -- the arrays are back, and the record is put together
-        move ! (9 ∷ 18 ∷ 26 ∷ []) $ back ! tt (Array u32 16) (zs .1 .0) b (o + 44) δ-clocks $ move ! (9 ∷ 17 ∷ 24 ∷ []) $ back ! tt (Array i64 16) (zs .1 .1 .0) b (o + 112) δ-firsts $ move ! (9 ∷ 16 ∷ 22 ∷ []) $ back ! tt (Array i64 16) (zs .1 .1 .1 .0) b (o + 240) δ-seconds $ move ! (9 ∷ 15 ∷ 20 ∷ []) $ back ! tt (Array u8 16) (zs .1 .1 .1 .1 .0) b (o + 368) δ-came $ move ! (9 ∷ 14 ∷ 18 ∷ []) $ back ! tt (Array u32 128) (zs .1 .1 .1 .1 .1 .0) b (o + 384) δ-input $ move ! (9 ∷ 13 ∷ 16 ∷ []) $ back ! tt (Array u32 32) (zs .1 .1 .1 .1 .1 .1 .0) b (o + 896) δ-blocking $ move ! (9 ∷ 12 ∷ 14 ∷ []) $ back ! tt (Array u32 4) (zs .1 .1 .1 .1 .1 .1 .1 .0) b (o + 1024) δ-fast $ move ! (9 ∷ 10 ∷ 12 ∷ []) $ back ! tt (Array u32 16) (zs .1 .1 .1 .1 .1 .1 .1 .1 .0) b (o + 1040) δ-generator $
+        move ! (9 ∷ 18 ∷ 26 ∷ []) $ back ! tt (Array u32 1024) (zs .1 .0) b (o + 44) δ-clocks $ move ! (9 ∷ 17 ∷ 24 ∷ []) $ back ! tt (Array i64 1024) (zs .1 .1 .0) b (o + 4144) δ-firsts $ move ! (9 ∷ 16 ∷ 22 ∷ []) $ back ! tt (Array i64 1024) (zs .1 .1 .1 .0) b (o + 12336) δ-seconds $ move ! (9 ∷ 15 ∷ 20 ∷ []) $ back ! tt (Array u8 1024) (zs .1 .1 .1 .1 .0) b (o + 20528) δ-came $ move ! (9 ∷ 14 ∷ 18 ∷ []) $ back ! tt (Array u32 128) (zs .1 .1 .1 .1 .1 .0) b (o + 21552) δ-input $ move ! (9 ∷ 13 ∷ 16 ∷ []) $ back ! tt (Array u32 32) (zs .1 .1 .1 .1 .1 .1 .0) b (o + 22064) δ-blocking $ move ! (9 ∷ 12 ∷ 14 ∷ []) $ back ! tt (Array u32 4) (zs .1 .1 .1 .1 .1 .1 .1 .0) b (o + 22192) δ-fast $ move ! (9 ∷ 10 ∷ 12 ∷ []) $ back ! tt (Array u32 16) (zs .1 .1 .1 .1 .1 .1 .1 .1 .0) b (o + 22208) δ-generator $
         move ! (11 ∷ 7 ∷ 6 ∷ 5 ∷ 4 ∷ 3 ∷ 2 ∷ 1 ∷ 0 ∷ 12 ∷ []) $ whole-again ! (given-back (zs .1 .0) (zs .1 .1 .0) (zs .1 .1 .1 .0) (zs .1 .1 .1 .1 .0) (zs .1 .1 .1 .1 .1 .0) (zs .1 .1 .1 .1 .1 .1 .0) (zs .1 .1 .1 .1 .1 .1 .1 .0) (zs .1 .1 .1 .1 .1 .1 .1 .1 .0)) b o (λ was′.
         -- the new ledger is stored, the answer is the result, and the record is closed
         assigns ! (of-opd ! (load ! (from ! (fld ! refl (stop !))) (look-in ! 28 (sub ! 0 refl (whole !))))) (from ! (stop !)) (init ! 26 refl (l-typed W (d .ledger) (of-ledger d _ is))) $

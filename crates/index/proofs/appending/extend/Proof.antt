@@ -28,11 +28,12 @@ returns-2 c =
     let wrong = c .if2 .taken in
     let c : tie.After-add-records = search in
     let said = c .add-records .ensures in
-    let c : tie.After-records = search in
+    let c : tie.After-version-in = search in
+    let version = c .version-in .ensures in
     let s : tie.Start = search in
     let a = s .args in
     refused-with (a .room .now) _ _ (a .more .now) _ _
-    (said .0 ∙ sym (number-longer (a .room .now) (a .len) (a .t3) (a .more .now) (s .pre .0 .0) (s .pre .0 .1) (s .pre .1 .0) (omega arith)))
+    (said .0 ∙ sym (number-longer (a .room .now) (a .len) (a .t3) (a .more .now) (s .pre .0 .0) (s .pre .0 .1) (s .pre .1 .0) (omega arith) _ version))
     wrong _ told
 
 returns-3 : tie.Need-returns-3
@@ -45,15 +46,17 @@ returns-3 c =
     let said = c .add-records .ensures in
     let c : tie.After-records = search in
     let many = c .records .ensures .0 in
+    let c : tie.After-version-in = search in
+    let version = c .version-in .ensures in
     let s : tie.Start = search in
     let a = s .args in
     let short : length (a .more .now) ≤ largest - a .len = omega arith in
     done-with (a .room .now) _ _ (a .more .now) _
-    (number-longer (a .room .now) (a .len) (a .t3) (a .more .now) (s .pre .0 .0) (s .pre .0 .1) (s .pre .1 .0) short ∙ sym (said .0) ∙ right)
-    _ (said .1 .1 .0 ∙ updated-longer (a .room .now) (a .len) (a .t3) (a .more .now) (s .pre .0 .0) (s .pre .0 .1) (s .pre .1 .0) short _ many) _ laid
+    (number-longer (a .room .now) (a .len) (a .t3) (a .more .now) (s .pre .0 .0) (s .pre .0 .1) (s .pre .1 .0) short _ version ∙ sym (said .0) ∙ right)
+    _ (said .1 .1 .0 ∙ updated-longer (a .room .now) (a .len) (a .t3) (a .more .now) (s .pre .0 .0) (s .pre .0 .1) (s .pre .1 .0) short _ version _ many) _ laid
 
 pub extend-spec : {M : Type 1} → statement M
 extend-spec =
     tie.close
-    (tie.spec (λ c. search needs) (λ c κs. search needs) returns (λ c κs. search needs) add-records-requires (λ c κs. search needs) returns-2
+    (tie.spec (λ c. search needs) (λ c κs. search needs) returns (λ c κs. search needs) (λ c κs. search needs) add-records-requires (λ c κs. search needs) (λ c. search needs) returns-2
     (λ c κs. search needs) (λ c. search needs) (λ c. search needs) returns-3)

@@ -11,13 +11,13 @@ use Rattle.index.proofs.looking.find_all.Statement.{statement}
 use Rattle.index.proofs.looking.find_all.Tie as tie
 
 abbrev Inv-loop : tie.InvT-loop
-Inv-loop j places count numbers answers₀ found₀ i₀ answers found i =
+Inv-loop version j places count numbers answers₀ found₀ i₀ answers found i =
     (i ≤ length numbers)
-    × ((answers ≡ sets answers₀ 0 (take i (map (λ m. sought count places j m .answer) numbers)))
-    × (found ≡ sets found₀ 0 (take i (map (λ m. sought count places j m .place) numbers))))
+    × ((answers ≡ sets answers₀ 0 (take i (map (λ m. sought count places version j m .answer) numbers)))
+    × (found ≡ sets found₀ 0 (take i (map (λ m. sought count places version j m .place) numbers))))
 
 abbrev μ-loop : tie.MeasureT-loop
-μ-loop j places count numbers answers₀ found₀ i₀ answers found i = length numbers - i
+μ-loop version j places count numbers answers₀ found₀ i₀ answers found i = length numbers - i
 
 loop-again : tie.Need-loop-again Inv-loop μ-loop
 loop-again c =
@@ -27,8 +27,8 @@ loop-again c =
     let a = s .args in (
       omega arith,
       (
-        one-more (λ m. sought (a .count) (a .places .now) (a .j .now) m .answer) (a .numbers .now) (a .answers .now) (l .loop .i) (omega arith) _ (f .find .ensures .0) _ (l .loop .inv .1 .0),
-        one-more (λ m. sought (a .count) (a .places .now) (a .j .now) m .place) (a .numbers .now) (a .found .now) (l .loop .i) (omega arith) _ (f .find .ensures .1) _ (l .loop .inv .1 .1),
+        one-more (λ m. sought (a .count) (a .places .now) (a .version) (a .j .now) m .answer) (a .numbers .now) (a .answers .now) (l .loop .i) (omega arith) _ (f .find .ensures .0) _ (l .loop .inv .1 .0),
+        one-more (λ m. sought (a .count) (a .places .now) (a .version) (a .j .now) m .place) (a .numbers .now) (a .found .now) (l .loop .i) (omega arith) _ (f .find .ensures .1) _ (l .loop .inv .1 .1),
       ),
     )
 
@@ -37,8 +37,8 @@ returns c =
     let l : tie.At-loop Inv-loop μ-loop = search in
     let s : tie.Start Inv-loop μ-loop = search in
     let a = s .args in (
-      l .loop .inv .1 .0 ∙ all-laid (λ m. sought (a .count) (a .places .now) (a .j .now) m .answer) (a .numbers .now) (a .answers .now) (l .loop .i) (omega arith),
-      l .loop .inv .1 .1 ∙ all-laid (λ m. sought (a .count) (a .places .now) (a .j .now) m .place) (a .numbers .now) (a .found .now) (l .loop .i) (omega arith),
+      l .loop .inv .1 .0 ∙ all-laid (λ m. sought (a .count) (a .places .now) (a .version) (a .j .now) m .answer) (a .numbers .now) (a .answers .now) (l .loop .i) (omega arith),
+      l .loop .inv .1 .1 ∙ all-laid (λ m. sought (a .count) (a .places .now) (a .version) (a .j .now) m .place) (a .numbers .now) (a .found .now) (l .loop .i) (omega arith),
     )
 
 pub find-all-spec : {M : Type 1} → statement M

@@ -37,6 +37,14 @@ returns-3 c =
       kept (a .room .now) (a .len) (a .numbers .now) (a .answers .now) (a .found .now) _ (λ z. omega (arith, z)),
     )
 
+version-in-requires : tie.Need-version-in-requires
+version-in-requires c κs =
+    let e : tie.Else1 = search in
+    let s : tie.Start = search in
+    let a = s .args in
+    let f = fits-room (a .room .now) (a .len) (sym (ends (a .room .now) (a .len) (a .it) (s .pre .1 .0)) ∙ e .if1 .left) in
+    omega (arith, f, s .pre .0)
+
 slice-aggregate-find-all : tie.Need-slice-aggregate-find-all
 slice-aggregate-find-all c =
     let e : tie.Else1 = search in
@@ -59,6 +67,8 @@ find-all-requires c κs =
 returns-4 : tie.Need-returns-4
 returns-4 c =
     let said = c .find-all .ensures in
+    let c : tie.After-version-in = search in
+    let version = c .version-in .ensures in
     let c : tie.After-records = search in
     let many = c .records .ensures .0 in
     let t : tie.Else3 = search in
@@ -67,10 +77,10 @@ returns-4 c =
     let s : tie.Start = search in
     let a = s .args in (
       few-enough (a .room .now) (a .len) (a .it) (s .pre .1 .0) (a .good) (a .numbers .now) (e .if1 .left) (not-false _ (d .if2 .left)) (t .if3 .left),
-      laid (a .room .now) (a .len) (a .numbers .now) (a .it .index) (found-index (a .room .now) (a .len) (a .it) (s .pre .1 .0) (e .if1 .left)) _ many (a .answers .now) (a .found .now) _ _ (said .0) (said .1),
+      laid (a .room .now) (a .len) (a .numbers .now) (a .it .index) (found-index (a .room .now) (a .len) (a .it) (s .pre .1 .0) (e .if1 .left)) _ many _ version (a .answers .now) (a .found .now) _ _ (said .0) (said .1),
     )
 
 pub look-if-spec : {M : Type 1} → statement M
 look-if-spec =
     tie.close
-    (tie.spec returns returns-2 returns-3 (λ c κs. search needs) slice-aggregate-find-all find-all-requires returns-4)
+    (tie.spec returns returns-2 returns-3 (λ c κs. search needs) version-in-requires slice-aggregate-find-all find-all-requires returns-4)

@@ -14,15 +14,15 @@ use Rattle.index.proofs.summing.add_records.Statement.{statement}
 use Rattle.index.proofs.summing.add_records.Tie as tie
 
 abbrev Inv-loop : tie.InvT-loop
-Inv-loop j from base count reads places₀ kinds₀ at₀ many₀ sum₀ places kinds at many sum = Going j from base count (index places₀ kinds₀ reads) places kinds at many sum
+Inv-loop version j from base count reads places₀ kinds₀ at₀ many₀ sum₀ places kinds at many sum = Going version j from base count (index places₀ kinds₀ reads) places kinds at many sum
 
 abbrev μ-loop : tie.MeasureT-loop
-μ-loop j from base count reads places₀ kinds₀ at₀ many₀ sum₀ places kinds at many sum = length j - at
+μ-loop version j from base count reads places₀ kinds₀ at₀ many₀ sum₀ places kinds at many sum = length j - at
 
 loop-holds : tie.Need-loop-holds Inv-loop μ-loop
 loop-holds c =
     let s : tie.Start Inv-loop μ-loop = search in
-    begin _ _ _ _ _ _ _ (s .pre .0 .0) (s .pre .1)
+    begin _ _ _ _ _ _ _ _ (s .pre .0 .0) (s .pre .1)
 
 add-mark : tie.Need-add-mark Inv-loop μ-loop
 add-mark c =
@@ -52,7 +52,7 @@ add-sum c =
     let s : tie.Start Inv-loop μ-loop = search in
     let k : tie.After-shared-slice-known Inv-loop μ-loop = search in
     let few = records-few (l .loop .inv) (s .pre .0 .1) in
-    let a = narrow (s .args .j .now) _ _ _ (λ x. omega (arith, k .shared-slice-known .given x)) (sym (r .read .ensures) ∙ i .it .given .1) in
+    let a = narrow _ (s .args .j .now) _ _ _ (λ x. omega (arith, k .shared-slice-known .given x)) (sym (r .read .ensures) ∙ i .it .given .1) in
     omega (arith, few, a, t .told .ensures .1, l .loop .inv .roomy .narrow)
 
 loop-less : tie.Need-loop-less Inv-loop μ-loop
@@ -60,7 +60,7 @@ loop-less c =
     let i : tie.After-it Inv-loop μ-loop = search in
     let r : tie.After-read Inv-loop μ-loop = search in
     let l : tie.At-loop Inv-loop μ-loop = search in
-    let h = read-ahead 1 _ _ _ _ (sym (r .read .ensures) ∙ i .it .given .1) in
+    let h = read-ahead _ _ _ _ _ (sym (r .read .ensures) ∙ i .it .given .1) in
     omega (arith, h .0, h .1)
 
 loop-again : tie.Need-loop-again Inv-loop μ-loop
@@ -81,14 +81,14 @@ returns c =
     let known = d .number .given .1 in
     let r : tie.After-read Inv-loop μ-loop = search in
     let l : tie.At-loop Inv-loop μ-loop = search in
-    gone (l .loop .inv) _ (walk-stop 1 _ _ _ (sym (r .read .ensures) ∙ known))
+    gone (l .loop .inv) _ (walk-stop _ _ _ _ (sym (r .read .ensures) ∙ known))
 
 returns-2 : tie.Need-returns-2 Inv-loop μ-loop
 returns-2 c =
     let known = c .enum-told .given .1 in
     let r : tie.After-read Inv-loop μ-loop = search in
     let l : tie.At-loop Inv-loop μ-loop = search in
-    gone (l .loop .inv) _ (walk-end 1 _ _ (sym (r .read .ensures) ∙ known))
+    gone (l .loop .inv) _ (walk-end _ _ _ (sym (r .read .ensures) ∙ known))
 
 pub add-records-spec : {M : Type 1} → statement M
 add-records-spec =

@@ -10,10 +10,10 @@ use Rattle.journal.proofs.ending.scan.Statement.{statement}
 use Rattle.journal.proofs.ending.scan.Tie as tie
 
 abbrev Inv-loop : tie.InvT-loop
-Inv-loop j at₀ at = walk 1 j at .number ≡ endingOf j
+Inv-loop j version at₀ at = walk version j at .number ≡ endingOf j
 
 abbrev μ-loop : tie.MeasureT-loop
-μ-loop j at₀ at = length j - at
+μ-loop j version at₀ at = length j - at
 
 returns : tie.Need-returns Inv-loop μ-loop
 returns c =
@@ -44,7 +44,7 @@ loop-again c =
     let c : tie.After-read Inv-loop μ-loop = search in
     let read = sym (c .read .ensures) ∙ known in
     let c : tie.At-loop Inv-loop μ-loop = search in
-    past-one _ _ (c .loop .inv) _ _ read
+    past-one _ _ _ (c .loop .inv) _ _ read
 
 returns-2 : tie.Need-returns-2 Inv-loop μ-loop
 returns-2 c =
@@ -53,7 +53,7 @@ returns-2 c =
     let c : tie.After-read Inv-loop μ-loop = search in
     let read = sym (c .read .ensures) ∙ known in
     let c : tie.At-loop Inv-loop μ-loop = search in
-    at-stop _ _ (c .loop .inv) _ read
+    at-stop _ _ _ (c .loop .inv) _ read
 
 returns-3 : tie.Need-returns-3 Inv-loop μ-loop
 returns-3 c =
@@ -61,7 +61,7 @@ returns-3 c =
     let c : tie.After-read Inv-loop μ-loop = search in
     let read = sym (c .read .ensures) ∙ known in
     let c : tie.At-loop Inv-loop μ-loop = search in
-    at-end _ _ (c .loop .inv) read
+    at-end _ _ _ (c .loop .inv) read
 
 pub scan-spec : {M : Type 1} → statement M
 scan-spec =

@@ -8,5 +8,5 @@ use Rattle.journal.proofs.records.generator_read.Tie as tie
 pub generator-read-spec : {M : Type 1} → statement M
 generator-read-spec =
     tie.close
-    (tie.spec (λ c. search needs) (λ c. off _ _ _ _ _ _ (read-kind _ _) (omega arith) (omega arith)) (λ c. search needs) (λ c κs. search needs)
-    (λ c. search needs) (λ c κs. search needs) (λ c. search needs) (λ c. full _ _ _ _ _ _ (read-kind _ _) _ _ (cc) refl (omega arith) (omega arith)))
+    (tie.spec (λ c. search needs) (λ c v. off v _ _ _ _ _ _ (read-kind v _ _) (omega arith) (omega arith)) (λ c. search needs) (λ c κs. search needs)
+    (λ c. search needs) (λ c κs. search needs) (λ c. search needs) (λ c v. full v _ _ _ _ _ _ (read-kind v _ _) _ _ (cc) refl (omega arith) (omega arith)))

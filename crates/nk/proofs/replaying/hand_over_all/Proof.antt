@@ -1,10 +1,11 @@
-use mathlib.Core.Path.{sym, ap, _∙_}
+use mathlib.Core.Path.{_≡_, sym, ap, _∙_}
 use mathlib.Core.List.{[], _∷_}
 use Prim.Native.Nat.{_-_}
 use types.Run.{miss}
 use lib.ListN.{length}
 use lib.Seq.{length-take-le}
 use borrow.Author.Tests.{not-false, not-true}
+use Rattle.journal.specs.Header.{versionOf}
 use Rattle.journal.specs.declared.heading.Heading.{Heading}
 use Rattle.ledger.specs.Timers.{timersOf}
 use Rattle.keeper.specs.Record.{keeperOf}
@@ -15,11 +16,11 @@ use Rattle.nk.proofs.replaying.hand_over_all.Statement.{statement}
 use Rattle.nk.proofs.replaying.hand_over_all.Tie as tie
 
 abbrev Inv-loop : tie.InvT-loop
-Inv-loop j done₀ clocks₀ firsts₀ seconds₀ came₀ input₀ blocking₀ fast₀ generator₀ l₀ at₀ room₀ done clocks firsts seconds came input blocking fast generator l at room =
-    Told j done at (keeperOf l (timersOf clocks firsts seconds came) input blocking fast generator)
+Inv-loop j done₀ h clocks₀ firsts₀ seconds₀ came₀ input₀ blocking₀ fast₀ generator₀ l₀ at₀ room₀ done clocks firsts seconds came input blocking fast generator l at room =
+    (h .version ≡ versionOf j) × Told j done at (keeperOf l (timersOf clocks firsts seconds came) input blocking fast generator)
 
 abbrev μ-loop : tie.MeasureT-loop
-μ-loop j done₀ clocks₀ firsts₀ seconds₀ came₀ input₀ blocking₀ fast₀ generator₀ l₀ at₀ room₀ done clocks firsts seconds came input blocking fast generator l at room =
+μ-loop j done₀ h clocks₀ firsts₀ seconds₀ came₀ input₀ blocking₀ fast₀ generator₀ l₀ at₀ room₀ done clocks firsts seconds came input blocking fast generator l at room =
     length j - at
 
 refuse-requires : tie.Need-refuse-requires Inv-loop μ-loop
@@ -45,14 +46,15 @@ loop-holds c =
     let c : tie.After-header Inv-loop μ-loop = search in
     let said = c .header .ensures in
     let c : tie.Start Inv-loop μ-loop = search in
-    told-none _ _ _ _ _ _ _ (c .pre) said good start made
+    (ap (λ (h : Heading). h .version) said, told-none _ _ _ _ _ _ _ (c .pre) said good start made)
 
 array-share-prefix-room : tie.Need-array-share-prefix-room Inv-loop μ-loop
 array-share-prefix-room c =
     let c : tie.After-fill-room Inv-loop μ-loop = search in
     let laid = c .fill-room .ensures in
     let c : tie.At-loop Inv-loop μ-loop = search in
-    let h = in-room _ _ _ _ (c .loop .inv) _ _ _ _ laid in
+    let inv = c .loop .inv in
+    let h = in-room _ _ _ _ (inv .1) _ (inv .0) _ _ _ _ laid in
     omega (arith, h)
 
 slice-aggregate-hand-over : tie.Need-slice-aggregate-hand-over Inv-loop μ-loop
@@ -60,7 +62,8 @@ slice-aggregate-hand-over c =
     let c : tie.After-fill-room Inv-loop μ-loop = search in
     let laid = c .fill-room .ensures in
     let c : tie.At-loop Inv-loop μ-loop = search in
-    let h = in-room _ _ _ _ (c .loop .inv) _ _ _ _ laid in
+    let inv = c .loop .inv in
+    let h = in-room _ _ _ _ (inv .1) _ (inv .0) _ _ _ _ laid in
     sym (length-take-le _ _ (omega (arith, h)))
 
 hand-over-requires : tie.Need-hand-over-requires Inv-loop μ-loop
@@ -68,7 +71,8 @@ hand-over-requires c κs =
     let c : tie.After-fill-room Inv-loop μ-loop = search in
     let laid = c .fill-room .ensures in
     let c : tie.At-loop Inv-loop μ-loop = search in
-    next-text _ _ _ _ (c .loop .inv) _ _ _ _ laid
+    let inv = c .loop .inv in
+    next-text _ _ _ _ (inv .1) _ (inv .0) _ _ _ _ laid
 
 returns-2 : tie.Need-returns-2 Inv-loop μ-loop
 returns-2 c = λ e. absurd (miss (1 ∷ 2 ∷ []) 0 tt (rw e at (c .match .keys2)))
@@ -81,7 +85,8 @@ returns-3 c =
     let c : tie.After-fill-room Inv-loop μ-loop = search in
     let laid = c .fill-room .ensures in
     let c : tie.At-loop Inv-loop μ-loop = search in
-    λ e. over ∙ told-all _ _ _ _ (c .loop .inv) _ _ _ _ laid (not-true _ last)
+    let inv = c .loop .inv in
+    λ e. over ∙ told-all _ _ _ _ (inv .1) _ (inv .0) _ _ _ _ laid (not-true _ last)
 
 loop-less : tie.Need-loop-less Inv-loop μ-loop
 loop-less c =
@@ -90,7 +95,8 @@ loop-less c =
     let c : tie.After-fill-room Inv-loop μ-loop = search in
     let laid = c .fill-room .ensures in
     let c : tie.At-loop Inv-loop μ-loop = search in
-    let h = goes-on _ _ _ _ (c .loop .inv) _ _ _ _ laid (not-false _ more) in
+    let inv = c .loop .inv in
+    let h = goes-on _ _ _ _ (inv .1) _ (inv .0) _ _ _ _ laid (not-false _ more) in
     omega (arith, h .0, h .1)
 
 loop-again : tie.Need-loop-again Inv-loop μ-loop
@@ -102,7 +108,8 @@ loop-again c =
     let c : tie.After-fill-room Inv-loop μ-loop = search in
     let laid = c .fill-room .ensures in
     let c : tie.At-loop Inv-loop μ-loop = search in
-    rw over (told-more _ _ _ _ (c .loop .inv) _ _ _ _ laid (not-false _ more))
+    let inv = c .loop .inv in
+    (inv .0, rw over (told-more _ _ _ _ (inv .1) _ (inv .0) _ _ _ _ laid (not-false _ more)))
 
 pub hand-over-all-spec : {M : Type 1} → statement M
 hand-over-all-spec =

@@ -1,62 +1,54 @@
-use mathlib.Core.Path.{_≡_, refl, sym, _∙_}
-use mathlib.Core.Bool.{_&&_}
-use Prim.Native.Nat.{_≤_, _-_}
+use mathlib.Core.Path.{_≡_, sym, ap₂, _∙_}
+use mathlib.Core.Bool.{Bool, _&&_}
+use Prim.Native.Nat.{_-_, _/_}
 use native.Mathlib.Omega.{arith}
+use lib.ListN.{length, take, drop, length-drop}
+use lib.Seq.{length-take-le}
 use borrow.Author.Needs.{needs}
-use lib.IntN.{pos}
-use lib.ListN.{length, getD}
-use Rattle.ledger.specs.Range.{firstInRange, secondInRange, every}
-use Rattle.reckon.proofs.Signs.{back}
-use Rattle.reckon.proofs.Tested.{Whole, one-more, all-met}
+use Rattle.ledger.specs.Sizes.{devices}
+use Rattle.ledger.specs.Range.{firstInRange, secondInRange}
+use Rattle.reckon.proofs.Tested.{in-parts}
 use Rattle.reckon.proofs.range.differences_in_range.Statement.{statement}
 use Rattle.reckon.proofs.range.differences_in_range.Tie as tie
 
--- what was met so far and what is left give the whole
-abbrev Inv-loop : tie.InvT-loop
-Inv-loop firsts seconds met₀ i₀ met i =
-    (i ≤ length firsts) × (Whole 32 firstInRange secondInRange firsts seconds i met ≡ (every firstInRange firsts && every secondInRange seconds))
+slice-aggregate-runs-in-range : tie.Need-slice-aggregate-runs-in-range
+slice-aggregate-runs-in-range c = sym (length-take-le _ _ (omega arith))
 
-abbrev μ-loop : tie.MeasureT-loop
-μ-loop firsts seconds met₀ i₀ met i = length firsts - i
+slice-aggregate-runs-in-range-2 : tie.Need-slice-aggregate-runs-in-range-2
+slice-aggregate-runs-in-range-2 c = sym (length-take-le _ _ (omega arith))
 
-loop-holds : tie.Need-loop-holds Inv-loop μ-loop
-loop-holds c = (search needs, refl)
+runs-in-range-requires : tie.Need-runs-in-range-requires
+runs-in-range-requires c κs =
+    let s : tie.Start = search in
+    let f = s .args .firsts .now in
+    let g = s .args .seconds .now in
+    let h = length f / 2 in
+    let e : length f ≡ devices = search needs in
+    let e2 : length g ≡ devices = search needs in
+    let a : length (take h f) ≡ h = length-take-le h f (omega arith) in
+    let b : length (drop h f) ≡ length f - h = length-drop h f in
+    let a2 : length (take h g) ≡ h = length-take-le h g (omega arith) in
+    let b2 : length (drop h g) ≡ length g - h = length-drop h g in
+    (omega arith, (omega arith, omega arith))
 
-loop-again : tie.Need-loop-again Inv-loop μ-loop
-loop-again c =
-    let y : tie.After-reach-arg2 Inv-loop μ-loop = search in
-    let x : tie.After-reach-arg Inv-loop μ-loop = search in
-    let b : tie.At-loop Inv-loop μ-loop = search in
-    let s : tie.Start Inv-loop μ-loop = search in
-    let l = b .loop in
-    let a = s .args in
-    let p = back (getD (a .firsts .now) (l .i) (pos 0)) (x .reach-arg .given) in
-    let q = back (getD (a .seconds .now) (l .i) (pos 0)) (y .reach-arg2 .given) in (
-      search needs,
-      one-more 32 firstInRange secondInRange (a .firsts .now) (a .seconds .now) (l .i) (l .met) _ (pos 0) (omega arith) (omega arith) (rw (p, q) at (c .reach .ensures)) ∙ l .inv .1,
-    )
-
-returns : tie.Need-returns Inv-loop μ-loop
+returns : tie.Need-returns
 returns c =
-    let b : tie.At-loop Inv-loop μ-loop = search in
-    let s : tie.Start Inv-loop μ-loop = search in
-    let l = b .loop in
-    let a = s .args in
-    sym (all-met 32 firstInRange secondInRange (a .firsts .now) (a .seconds .now) (l .i) (l .met) (omega arith) (omega arith)) ∙ l .inv .1
+    let s : tie.Start = search in
+    c .runs-in-range .ensures ∙ ap₂ (λ (a b : Bool). a && b) (in-parts firstInRange (length (s .args .firsts .now) / 2) (s .args .firsts .now)) (in-parts secondInRange (length (s .args .firsts .now) / 2) (s .args .seconds .now))
 
 pub differences-in-range-spec : {M : Type 1} → statement M
 differences-in-range-spec =
     tie.close
     (tie.spec
-    Inv-loop
-    μ-loop
-    loop-holds
+    slice-aggregate-runs-in-range
     (λ c. search needs)
     (λ c. search needs)
     (λ c. search needs)
     (λ c. search needs)
-    (λ c κs. search needs)
+    slice-aggregate-runs-in-range-2
     (λ c. search needs)
     (λ c. search needs)
-    loop-again
+    (λ c. search needs)
+    (λ c. search needs)
+    runs-in-range-requires
     returns)

@@ -21,7 +21,7 @@ returns c =
     let c : tie.After-it = search in
     let one = c .it .given .1 in
     let c : tie.After-read = search in
-    at-one _ _ _ _ _ _ (omega (arith, long)) _ _ _ _ _ _ (sym (c .read .ensures) ∙ one) ran line
+    at-one _ _ _ _ _ _ _ (omega (arith, long)) _ _ _ _ _ _ (sym (c .read .ensures) ∙ one) ran line
 
 returns-2 : tie.Need-returns-2
 returns-2 c =
@@ -31,7 +31,7 @@ returns-2 c =
     let c : tie.After-number = search in
     let stop = c .number .given .1 in
     let c : tie.After-read = search in
-    at-stop _ _ _ _ _ _ (omega (arith, long)) _ _ (sym (c .read .ensures) ∙ stop) line
+    at-stop _ _ _ _ _ _ _ (omega (arith, long)) _ _ (sym (c .read .ensures) ∙ stop) line
 
 returns-3 : tie.Need-returns-3
 returns-3 c =
@@ -41,7 +41,7 @@ returns-3 c =
     let c : tie.After-enum-told = search in
     let end = c .enum-told .given .1 in
     let c : tie.After-read = search in
-    at-end _ _ _ _ _ _ (omega (arith, long)) _ (sym (c .read .ensures) ∙ end) line
+    at-end _ _ _ _ _ _ _ (omega (arith, long)) _ (sym (c .read .ensures) ∙ end) line
 
 pub take-turn-spec : {M : Type 1} → statement M
 take-turn-spec =

@@ -1,0 +1,6 @@
+pub mod Longer
+pub mod Passing
+pub mod Refusing
+pub mod Laid
+pub mod Converted
+pub mod Cases
