@@ -1,9 +1,10 @@
 /* A summary beside a journal, as C calls it: the index of a journal that stands in a room of 61,440 bytes. docs/HEADER.md says what holds
  * each sentence. These calls need no keeper, and stand in an archive of their own: `rt staticlib index` writes it.
  *
- * The journal is the room's first `len` bytes. Its index has the byte places of records 0, 64, 128 and so on, counted from 0, how many records
- * there are of kinds 1 to 6, and the sum of the lengths that reads ask for (kinds 5 and 6), whether they are answered or refused. Places that
- * are not used are 0; an index that has another number there is not the journal's.
+ * The journal is the room's first `len` bytes, of version 1 or 2; what is appended to it is read in its version. Its index has the byte
+ * places of records 0, 64, 128 and so on, counted from 0, how many records there are of kinds 1 to 6, and the sum of the lengths that reads
+ * ask for (kinds 5 and 6), whether they are answered or refused. Places that are not used are 0; an index that has another number there is
+ * not the journal's.
  *
  * REFUSALS. nk_append and nk_look refuse, in this order, and then room, length, index and both rooms of a look-up are as they were:
  *   - a journal that does not end with 0, with the number that it ends with (3, 8 to 12; a `len` above 61,440 is 12),

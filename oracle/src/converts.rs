@@ -138,6 +138,7 @@ pub fn converts(seed: u64, count: u64, out: &mut dyn Write) -> io::Result<()> {
 #[cfg(test)]
 mod tests {
     use super::*;
+    use crate::read_back::{bytes, number};
     use crate::convert::{replay_alike, ROOM_TOO_SHORT};
     use crate::journal::{Version, HEADER, LARGEST};
     use std::collections::BTreeSet;
@@ -146,18 +147,6 @@ mod tests {
         let mut out = Vec::new();
         converts(seed, count, &mut out).unwrap();
         String::from_utf8(out).unwrap()
-    }
-
-    fn number<T: std::str::FromStr>(word: &str) -> T {
-        word.parse().ok().unwrap()
-    }
-
-    fn bytes(word: &str) -> Vec<u8> {
-        if word == "-" {
-            return Vec::new();
-        }
-        let digits = |i| u8::from_str_radix(&word[i..i + 2], 16).unwrap();
-        (0..word.len()).step_by(2).map(digits).collect()
     }
 
     /// What a line of pieces stands for.

@@ -265,24 +265,13 @@ pub fn lookups(seed: u64, count: u64, out: &mut dyn Write) -> io::Result<()> {
 #[cfg(test)]
 mod tests {
     use super::*;
+    use crate::read_back::{bytes, number};
     use std::collections::BTreeSet;
 
     fn trace(seed: u64, count: u64) -> String {
         let mut out = Vec::new();
         lookups(seed, count, &mut out).unwrap();
         String::from_utf8(out).unwrap()
-    }
-
-    fn number<T: std::str::FromStr>(word: &str) -> T {
-        word.parse().ok().unwrap()
-    }
-
-    fn bytes(word: &str) -> Vec<u8> {
-        if word == "-" {
-            return Vec::new();
-        }
-        let digits = |i| u8::from_str_radix(&word[i..i + 2], 16).unwrap();
-        (0..word.len()).step_by(2).map(digits).collect()
     }
 
     fn numbers(words: &[&str]) -> Vec<u32> {

@@ -19,6 +19,8 @@ mod maker;
 mod pick;
 mod pools;
 mod random;
+#[cfg(test)]
+mod read_back;
 mod replace;
 mod situations;
 mod summaries;
