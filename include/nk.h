@@ -1,7 +1,7 @@
 /* The noise keeper, as C calls it. docs/HEADER.md says for each sentence what holds it: a proof, a test, or the caller.
  *
  * A keeper is one record, struct nk_keeper, of 22,272 bytes, that the caller owns and lends to each call; the call changes it in place, and
- * copies none of its arrays. There is no other state: no heap, no globals, nothing to close. nk_make makes a keeper of any memory; the
+ * copies neither a pool nor the timers. There is no other state: no heap, no globals, nothing to close. nk_make makes a keeper of any memory; the
  * other six calls work on a keeper that was made. examples/terminal/ is a terminal built on it.
  *
  * What goes in: device events and interrupts (noise that the keeper credits by its own estimate), writes (noise with no credit) and
