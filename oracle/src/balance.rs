@@ -8,10 +8,10 @@ use crate::keeper::{Answer, Keeper, DONE};
 const BYTE: u64 = 64;
 
 /// What the two pools are good for.
-#[derive(Clone, Copy, Debug, PartialEq)]
+#[derive(Clone, Copy, Debug, Default, PartialEq)]
 pub struct Counts {
-    input: u32,
-    blocking: u32,
+    pub input: u32,
+    pub blocking: u32,
 }
 
 impl Counts {
@@ -24,52 +24,75 @@ impl Counts {
 }
 
 /// What a call did to one pool.
-struct Moved {
-    before: u32,
+#[derive(Clone, Copy)]
+pub struct Moved {
     added: u32,
     /// In bytes.
     taken: usize,
-    after: u32,
-}
-
-impl Moved {
-    fn adds_up(&self) -> bool {
-        let out = BYTE * self.taken as u64;
-        u64::from(self.after) + out == u64::from(self.before) + u64::from(self.added)
-    }
-}
-
-/// Panics where the counts and the answer do not add up: a program that is used
-/// to find faults must not go on with one of its own.
-pub fn check(before: Counts, record: &Record, answer: &Answer, after: Counts) {
-    let moved = moved(before, record, answer, after);
-    assert!(
-        moved.iter().all(Moved::adds_up) && (answer.number == DONE || idle(answer)),
-        "the counts do not add up: {before:?}, then {record:?}, {answer:?}, {after:?}"
-    );
 }
 
 /// What was done to the input pool and to the blocking pool. A blocking read
 /// credits the latter, and every other call the former: no call credits both.
-fn moved(before: Counts, record: &Record, answer: &Answer, after: Counts) -> [Moved; 2] {
+pub fn moved(record: &Record, answer: &Answer) -> [Moved; 2] {
     let (to_input, to_blocking, delivered) = match record {
         Record::Blocking { .. } => (0, answer.added, answer.delivered),
         _ => (answer.added, 0, 0),
     };
     [
         Moved {
-            before: before.input,
             added: to_input,
             taken: answer.taken,
-            after: after.input,
         },
         Moved {
-            before: before.blocking,
             added: to_blocking,
             taken: delivered,
-            after: after.blocking,
         },
     ]
+}
+
+/// What was done to one pool since its count was this.
+#[derive(Clone, Copy, Debug, Default, PartialEq)]
+pub struct Account {
+    since: u32,
+    pub added: u64,
+    /// In bytes.
+    pub taken: u64,
+}
+
+impl Account {
+    pub fn since(count: u32) -> Account {
+        Account {
+            since: count,
+            ..Account::default()
+        }
+    }
+
+    pub fn enter(&mut self, moved: Moved) {
+        self.added += u64::from(moved.added);
+        self.taken += moved.taken as u64;
+    }
+
+    /// Whether the pool's count is what it has to be by now.
+    pub fn adds_up(&self, count: u32) -> bool {
+        u64::from(count) + BYTE * self.taken == u64::from(self.since) + self.added
+    }
+}
+
+/// Panics where the counts and the answer do not add up: a program that is used
+/// to find faults must not go on with one of its own.
+pub fn check(before: Counts, record: &Record, answer: &Answer, after: Counts) {
+    let [to_input, to_blocking] = moved(record, answer);
+    let adds_up = |before, moved, after| {
+        let mut account = Account::since(before);
+        account.enter(moved);
+        account.adds_up(after)
+    };
+    assert!(
+        adds_up(before.input, to_input, after.input)
+            && adds_up(before.blocking, to_blocking, after.blocking)
+            && (answer.number == DONE || idle(answer)),
+        "the counts do not add up: {before:?}, then {record}, {answer:?}, {after:?}"
+    );
 }
 
 /// Whether an answer tells of nothing that was done, as each refusal has to.

@@ -4,8 +4,10 @@
 
 use std::io::{self, Write};
 
+use crate::balance::Counts;
 use crate::journal::{hex_word, Record, Version};
 use crate::keeper::{Answer, Keeper, Timer, BAD_START, DEVICES, LONGEST, START};
+use crate::ledger::Ledger;
 use crate::maker::anything::{any_device, any_record, first_clock, start, Pace};
 use crate::maker::sized::event_of;
 use crate::pools::{BLOCKING, INPUT};
@@ -92,6 +94,7 @@ fn answer_line(answer: &Answer) -> String {
         compressions,
         added,
         taken: _,
+        bits: _,
     } = answer;
     format!("answer {number} {delivered} {blocks} {compressions} {added}")
 }
@@ -297,10 +300,13 @@ fn edge(random: &mut Random) -> (Place, i64) {
 struct Trace<'a> {
     out: &'a mut dyn Write,
     keeper: Keeper,
+    /// Until something is put into the record, which is no call's doing.
+    ledger: Option<Ledger>,
 }
 
 impl Trace<'_> {
     fn put(&mut self, place: Place, value: i64) -> io::Result<()> {
+        self.ledger = None;
         put(&mut self.keeper, place, value);
         let Place { field, index } = place;
         writeln!(self.out, "put {field} {index} {value}")
@@ -328,15 +334,13 @@ impl Trace<'_> {
     }
 
     fn call(&mut self, random: &mut Random, record: &Record) -> io::Result<()> {
-        let mut room = match record {
-            Record::Generator { length, .. } | Record::Blocking { length, .. } => {
-                random.bytes(usize::from(*length))
-            }
-            _ => Vec::new(),
-        };
+        let mut room = random.bytes(record.wanted());
         writeln!(self.out, "{}", call_line(record, &room))?;
         let before = self.keeper.clone();
         let answer = perform_into(&mut self.keeper, record, &mut room);
+        if let Some(ledger) = &mut self.ledger {
+            ledger.hold(record, &answer, Counts::of(&self.keeper));
+        }
         writeln!(self.out, "{}", answer_line(&answer))?;
         writeln!(self.out, "room {}", hex_word(&room))?;
         writeln!(self.out, "{}", keeper_line(&before, &self.keeper))
@@ -559,7 +563,12 @@ fn make<'a>(random: &mut Random, out: &'a mut dyn Write) -> io::Result<Trace<'a>
         "answer 0 0 0 0 0\nroom -\n{}",
         whole_but_timers(&keeper)
     )?;
-    Ok(Trace { out, keeper })
+    let ledger = Some(Ledger::new(DEVICES as u32));
+    Ok(Trace {
+        out,
+        keeper,
+        ledger,
+    })
 }
 
 /// A sequence over all devices: the timer of each out of range, all timers at the
@@ -650,7 +659,9 @@ mod tests {
     use super::*;
     use crate::credits::estimate;
     use crate::keeper::OUT_OF_RANGE;
+    use crate::rules::Wrong;
     use std::collections::BTreeSet;
+    use std::panic::catch_unwind;
 
     fn trace(seed: u64, count: u64) -> String {
         let mut out = Vec::new();
@@ -700,6 +711,24 @@ mod tests {
         "fast-word",
         "generator-word",
     ];
+
+    /// No count tells that a first event should not have earned: it takes a ledger.
+    #[test]
+    fn a_trace_has_a_ledger_until_something_is_put() {
+        let _wrong = Wrong::put(|rules| rules.new_events = 0);
+        let trace = |put: bool| {
+            let random = &mut Random::new(1, 1);
+            let mut trace = Vec::new();
+            let mut trace = make(random, &mut trace).unwrap();
+            if put {
+                trace.put_count("tally", 0).unwrap();
+            }
+            let record = event(random, 5, 1_024);
+            trace.call(random, &record).unwrap();
+        };
+        trace(true);
+        assert!(catch_unwind(|| trace(false)).is_err());
+    }
 
     /// The record that a trace tells of, by its text alone.
     fn tell(keeper: &mut Keeper, line: &str) {

@@ -1,11 +1,13 @@
 //! What an event is worth, and how a count rises and falls. Counts are in
 //! eighths of a bit.
 
+use crate::rules::rules;
+
 /// The most that one device event is worth, in bits.
 const CAP: u32 = 11;
 
 /// A byte taken from a pool costs eight bits.
-const BYTE: u32 = 64;
+pub const BYTE: u32 = 64;
 
 /// The difference of two clocks: the shortest way round, so that a clock
 /// which ran back gives a negative number.
@@ -57,7 +59,10 @@ pub fn turns(count: u32, size: u32, bits: u32) -> Vec<u32> {
     let mut counts = Vec::new();
     while rest > 0 && (counts.is_empty() || count < size - 2) {
         let a = rest.min(size / 2);
-        count += (size - count) * a * 3 / (4 * size);
+        count += match rules().damped {
+            true => (size - count) * a * 3 / (4 * size),
+            false => a.min(size - count),
+        };
         rest -= a;
         counts.push(count as u32);
     }
@@ -69,7 +74,7 @@ pub fn debited(count: u32, wanted: usize, least: usize) -> (usize, u32) {
     let have = (count / BYTE) as usize;
     let can = wanted.min(have);
     let taken = if can < least { 0 } else { can };
-    (taken, count - BYTE * taken as u32)
+    (taken, count - rules().byte * taken as u32)
 }
 
 #[cfg(test)]

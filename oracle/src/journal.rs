@@ -296,6 +296,14 @@ impl Record<'_> {
         }
     }
 
+    /// The bytes that a read asks for; a call that reads nothing asks for none.
+    pub fn wanted(&self) -> usize {
+        match self {
+            Record::Generator { length, .. } | Record::Blocking { length, .. } => (*length).into(),
+            _ => 0,
+        }
+    }
+
     /// Puts the record at the end of a journal of this version. A device or
     /// bytes that no field can hold are a mistake of the caller.
     pub fn write(&self, version: Version, out: &mut Vec<u8>) {

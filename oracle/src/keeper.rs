@@ -3,6 +3,7 @@
 use crate::cipher;
 use crate::credits::{clock_difference, credited, debited, estimate, Credited};
 use crate::pools::{Pool, BLOCKING, INPUT};
+use crate::rules::rules;
 
 // The numbers a call gives back.
 pub const DONE: u8 = 0;
@@ -75,7 +76,7 @@ impl Timer {
     /// The bits that an event at `now` earns. Until the fourth, a difference
     /// still goes back to the clock of zero that no event had.
     pub fn earned(&self, now: u32) -> u32 {
-        if self.came < CAME_MOST {
+        if self.came < rules().new_events {
             0
         } else {
             self.worth(now)
@@ -112,6 +113,9 @@ pub struct Answer {
     /// The bytes taken out of the input pool. Nobody is told: it is here to hold
     /// the counts against.
     pub taken: usize,
+    /// The bits that the input pool was credited, before it dampened them. Nobody
+    /// is told of these either: the ledger is held against them.
+    pub bits: u32,
 }
 
 impl Answer {
@@ -292,7 +296,9 @@ impl Keeper {
             self.refill_blocking(wanted, &mut answer);
         }
         let (taken, left) = debited(self.blocking.count, wanted, 0);
-        self.blocking.count = left;
+        if rules().delivery_paid {
+            self.blocking.count = left;
+        }
         let (bytes, compressions) = self.blocking.extract(taken);
         answer.compressions += compressions;
         answer.delivered = taken;
@@ -302,9 +308,13 @@ impl Keeper {
 
     /// Moves bytes from the input pool to the blocking pool.
     fn refill_blocking(&mut self, wanted: usize, answer: &mut Answer) {
+        let unpaid = self.input.count;
         let bytes = self.take_input(wanted.clamp(8, 128), 8, answer);
+        if !rules().transfer_paid {
+            self.input.count = unpaid;
+        }
         self.blocking.mix(&bytes);
-        let bits = 8 * bytes.len() as u32;
+        let bits = rules().transferred * bytes.len() as u32;
         let Credited { count, added } = credited(self.blocking.count, BLOCKING.size, bits);
         self.blocking.count = count;
         answer.added += added;
@@ -316,6 +326,7 @@ impl Keeper {
         self.input.count = count;
         let mut answer = Answer {
             added,
+            bits,
             ..Answer::default()
         };
         if bits > 0 && !self.seeded && count >= SEED_COUNT {
@@ -620,9 +631,10 @@ mod tests {
     }
 
     /// The answer to a call that credits the input pool and takes nothing.
-    fn adding(added: u32) -> Answer {
+    fn adding(bits: u32, added: u32) -> Answer {
         Answer {
             added,
+            bits,
             ..Answer::default()
         }
     }
@@ -630,10 +642,10 @@ mod tests {
     #[test]
     fn p5_and_p6_the_units_of_one_bit() {
         let (keeper, answer) = after_credit(1);
-        assert_eq!((keeper.input.count, answer), (6, adding(6)));
+        assert_eq!((keeper.input.count, answer), (6, adding(1, 6)));
         let (mut keeper, _) = after_credit(4_096);
         keeper.input.count = 32_762;
-        assert_eq!(keeper.seed(7, &[1], 1), adding(0));
+        assert_eq!(keeper.seed(7, &[1], 1), adding(1, 0));
         assert_eq!(keeper.input.count, 32_762);
     }
 
@@ -641,7 +653,7 @@ mod tests {
     fn p7_credit_170_leaves_a_keeper_unseeded() {
         let (keeper, answer) = after_credit(170);
         assert_eq!((keeper.input.count, keeper.seeded), (1_020, false));
-        assert_eq!(answer, adding(1_020));
+        assert_eq!(answer, adding(170, 1_020));
     }
 
     #[test]
@@ -657,6 +669,7 @@ mod tests {
                 compressions,
                 added,
                 taken,
+                bits,
                 ..Answer::default()
             };
             assert_eq!(answer, expected);
@@ -683,6 +696,7 @@ mod tests {
             compressions: 20,
             added: 768,
             taken: 16,
+            bits: 0,
         };
         assert_eq!(keeper.blocking_read(&mut room), expected);
         assert_eq!((keeper.input.count, keeper.blocking.count), (16_896, 0));
@@ -828,17 +842,17 @@ mod tests {
     fn interrupts_spill_at_the_sixty_fourth_or_after_a_thousand_ticks() {
         let mut keeper = fresh();
         for _ in 0..63 {
-            assert_eq!(keeper.interrupt(1_000, 1, 2, 3), adding(0));
+            assert_eq!(keeper.interrupt(1_000, 1, 2, 3), adding(0, 0));
         }
         assert_eq!((keeper.tally, keeper.input.count), (63, 0));
-        assert_eq!(keeper.interrupt(1_000, 1, 2, 3), adding(6));
+        assert_eq!(keeper.interrupt(1_000, 1, 2, 3), adding(1, 6));
         assert_eq!((keeper.tally, keeper.input.count), (0, 6));
         assert_eq!((keeper.last_spill, keeper.input.position), (1_000, 112));
 
         let mut keeper = fresh();
-        assert_eq!(keeper.interrupt(1_001, 1, 2, 3), adding(6));
+        assert_eq!(keeper.interrupt(1_001, 1, 2, 3), adding(1, 6));
         assert_eq!((keeper.tally, keeper.last_spill), (0, 1_001));
-        assert_eq!(keeper.interrupt(0, 1, 2, 3), adding(0));
+        assert_eq!(keeper.interrupt(0, 1, 2, 3), adding(0, 0));
         assert_eq!((keeper.tally, keeper.last_spill), (1, 1_001));
     }
 
@@ -847,7 +861,7 @@ mod tests {
         for (count, added) in [(27_306, 1), (27_307, 0), (32_768, 0)] {
             let (mut keeper, _) = after_credit(4_096);
             keeper.input.count = count;
-            assert_eq!(keeper.interrupt(1_001, 1, 2, 3), adding(added));
+            assert_eq!(keeper.interrupt(1_001, 1, 2, 3), adding(1, added));
             assert_eq!((keeper.tally, keeper.input.count), (0, count + added));
         }
     }

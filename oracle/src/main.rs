@@ -14,6 +14,7 @@ mod hash;
 mod index;
 mod journal;
 mod keeper;
+mod ledger;
 mod lookups;
 mod maker;
 mod pick;
@@ -22,6 +23,7 @@ mod random;
 #[cfg(test)]
 mod read_back;
 mod replace;
+mod rules;
 mod situations;
 mod summaries;
 mod tally;
@@ -30,8 +32,10 @@ mod trial;
 mod watch;
 mod words;
 
+use std::any::Any;
 use std::fs;
 use std::io::{self, BufWriter, Write};
+use std::panic::{self, Location};
 use std::path::{Path, PathBuf};
 use std::process::ExitCode;
 
@@ -42,6 +46,7 @@ use words::Order;
 const USAGE: &str = "\
 usage: oracle transcript FILE..
        oracle list FILE..
+       oracle ledger FILE..
        oracle make --seed S --count N DIR
        oracle compare --seed S --count N [--batch B] [--keep DIR] --program COMMAND..
        oracle calls --seed S --count N
@@ -111,6 +116,7 @@ impl Options {
 }
 
 fn main() -> ExitCode {
+    panic::set_hook(Box::new(|info| break_off(info.payload(), info.location())));
     let words: Vec<String> = std::env::args().skip(1).collect();
     let mut out = BufWriter::new(io::stdout().lock());
     let done = run(&words, &mut out).and_then(|good| {
@@ -125,6 +131,15 @@ fn main() -> ExitCode {
             ExitCode::from(2)
         }
     }
+}
+
+/// Tells in one line why the program does not go on, as where a check fails.
+fn break_off(reason: &(dyn Any + Send), place: Option<&Location>) {
+    let whole = reason.downcast_ref::<String>().map(String::as_str);
+    let plain = reason.downcast_ref::<&str>().copied();
+    let text = whole.or(plain).unwrap_or("no reason told");
+    let place = place.map(|place| format!(" ({place})"));
+    eprintln!("oracle: {text}{}", place.unwrap_or_default());
 }
 
 /// Carries out one command; true where all was well.
@@ -147,6 +162,13 @@ fn run(words: &[String], out: &mut dyn Write) -> Result<bool, String> {
             for file in &options.others {
                 let journal = read(file)?;
                 write!(out, "{file}: {}", journal::listing(&journal)).map_err(text)?;
+            }
+            Ok(true)
+        }
+        "ledger" => {
+            for file in &options.others {
+                let journal = read(file)?;
+                write!(out, "{file}: {}", transcript::sums(&journal)).map_err(text)?;
             }
             Ok(true)
         }

@@ -12,6 +12,7 @@ mod devices;
 mod draft;
 mod headers;
 mod kinds;
+mod ledgers;
 mod mixes;
 mod new_devices;
 mod reseeds;
@@ -60,11 +61,12 @@ enum Steps {
     Devices,
     NewDevices,
     Worths,
+    Ledgers,
 }
 
 /// The same in turn. A run of 2,000 journals has some 166 of these, and there
 /// are 63 tallies to spill at.
-const STEPS: [Steps; 10] = [
+const STEPS: [Steps; 20] = [
     Steps::TimedSpill,
     Steps::Reseed,
     Steps::TimedSpill,
@@ -73,7 +75,17 @@ const STEPS: [Steps; 10] = [
     Steps::TimedSpill,
     Steps::ZeroSeed,
     Steps::TimedSpill,
+    Steps::Ledgers,
+    Steps::Devices,
+    Steps::TimedSpill,
     Steps::Reseed,
+    Steps::TimedSpill,
+    Steps::NewDevices,
+    Steps::Worths,
+    Steps::TimedSpill,
+    Steps::Ledgers,
+    Steps::TimedSpill,
+    Steps::Ledgers,
     Steps::Devices,
 ];
 
@@ -109,6 +121,7 @@ fn steps(random: &mut Random, turn: u64) -> Vec<u8> {
         Steps::Devices => devices::devices(random, turn),
         Steps::NewDevices => new_devices::new_devices(random, turn),
         Steps::Worths => worths::worths(random, turn),
+        Steps::Ledgers => ledgers::ledgers(random, turn),
     }
 }
 
@@ -141,7 +154,7 @@ mod tests {
         assert_eq!(sum, JOURNALS_OF_SEED_1);
     }
 
-    const JOURNALS_OF_SEED_1: u64 = 15_980_809_033_049_235_850;
+    const JOURNALS_OF_SEED_1: u64 = 4_931_647_967_606_665_704;
 
     #[test]
     fn all_come_in_their_turn() {

@@ -4,7 +4,8 @@
 use crate::journal::Version;
 use crate::maker;
 use crate::situations::{
-    Creditor, Next, Seeder, Situation, Situation::*, Wait, Worth, BORDER_DEVICES, BORDER_REFUSALS,
+    Creditor, Next, NotAwarded, Seeder, Situation, Situation::*, Wait, Worth, BORDER_DEVICES,
+    BORDER_REFUSALS,
 };
 use crate::watch::Shown;
 
@@ -121,6 +122,7 @@ fn wishes() -> Vec<Wish> {
     wishes.extend(new_devices());
     wishes.extend(worths());
     wishes.extend(versions());
+    wishes.extend(ledgers());
     wishes
 }
 
@@ -248,6 +250,26 @@ fn versions() -> [Wish; 8] {
     ]
 }
 
+/// Those of the ledger and its bound.
+fn ledgers() -> [Wish; 3] {
+    use Value::{Any, Is};
+    let all_the_same = NotAwarded::ALL.map(|call| (BoundReachedAfter(call), Any));
+    [
+        Wish::new(
+            "the ledger's bound is reached four times over, after calls that are awarded nothing",
+            &[&[(BoundReached, Is(4))][..], &all_the_same].concat(),
+        ),
+        Wish::new(
+            "the ledger's bound is missed by 3, which is the least",
+            &[(BoundMissedBy, Is(3))],
+        ),
+        Wish::new(
+            "an event, an interrupt and a seed earn, and bytes are delivered for it",
+            &Creditor::AWARDED.map(|creditor| (DeliveredAfter(creditor), Any)),
+        ),
+    ]
+}
+
 /// The smallest journal of a run for each wish.
 pub fn pick(seed: u64, count: u64) -> Result<Vec<Picked>, String> {
     let mut journals: Vec<Vec<u8>> = (1..=count).map(|n| maker::journal(seed, n)).collect();
@@ -284,7 +306,7 @@ mod tests {
             assert!(text.ends_with(&format!("end {ending}\n")), "{}", one.text);
         }
         let bytes: usize = picked.iter().map(|one| one.journal.len()).sum();
-        assert!(bytes < 15_000, "{bytes}");
+        assert!(bytes < 17_000, "{bytes}");
     }
 
     #[test]

@@ -48,6 +48,55 @@ pub enum Creditor {
     BlockingRead,
 }
 
+impl Creditor {
+    /// Those that bits are awarded for.
+    pub const AWARDED: [Creditor; 3] = [Creditor::Event, Creditor::Interrupt, Creditor::Seed];
+
+    fn name(self) -> &'static str {
+        match self {
+            Creditor::Event => "a device event",
+            Creditor::Interrupt => "an interrupt",
+            Creditor::Seed => "a seed",
+            Creditor::BlockingRead => "a blocking read",
+        }
+    }
+}
+
+/// A call that is awarded nothing, where another like it would have earned.
+#[derive(Clone, Copy, Debug, PartialEq, Eq, PartialOrd, Ord)]
+pub enum NotAwarded {
+    /// It names too many bits.
+    RefusedSeed,
+    /// With another value it would have earned.
+    RepeatedEvent,
+    /// The device that has its low bits would have earned.
+    NoDevice,
+    /// It is worth something, and comes too early.
+    NewDevice,
+    /// It is not late enough, nor are there enough of them.
+    NoSpill,
+}
+
+impl NotAwarded {
+    pub const ALL: [NotAwarded; 5] = [
+        NotAwarded::RefusedSeed,
+        NotAwarded::RepeatedEvent,
+        NotAwarded::NoDevice,
+        NotAwarded::NewDevice,
+        NotAwarded::NoSpill,
+    ];
+
+    fn name(self) -> &'static str {
+        match self {
+            NotAwarded::RefusedSeed => "a refused seed",
+            NotAwarded::RepeatedEvent => "a repeated event",
+            NotAwarded::NoDevice => "an event of no device",
+            NotAwarded::NewDevice => "an event of a new device",
+            NotAwarded::NoSpill => "an interrupt that only stirs",
+        }
+    }
+}
+
 /// What came of it, by the units that its answer carries.
 #[derive(Clone, Copy, Debug, PartialEq, Eq, PartialOrd, Ord)]
 pub enum Worth {
@@ -130,6 +179,17 @@ pub enum Situation {
     RefusedAfterAdding,
     /// By the kind, of those that never credit. The call before it added units.
     OtherAfterAdding,
+    /// By how many deliveries of the journal have: 128 times the bytes delivered
+    /// are nine times the bits awarded.
+    BoundReached,
+    /// By the length of the read.
+    BoundReachedAsking,
+    BoundReachedAfter(NotAwarded),
+    /// By how much the bits are more than that after a delivery.
+    BoundMissedBy,
+    DeliveredAfter(Creditor),
+    /// By the bytes that the first seeding took for the key.
+    DeliveredAfterKey,
     /// By the length; so are the next two. One that is cut before it tells its
     /// version is right for either.
     HeaderRight(Version),
@@ -238,6 +298,14 @@ impl Situation {
         all.extend([
             RefusedAfterAdding,
             OtherAfterAdding,
+            BoundReached,
+            BoundReachedAsking,
+        ]);
+        all.extend(NotAwarded::ALL.map(BoundReachedAfter));
+        all.push(BoundMissedBy);
+        all.extend(Creditor::AWARDED.map(DeliveredAfter));
+        all.extend([
+            DeliveredAfterKey,
             HeaderRight(Version::One),
             HeaderRight(Version::Two),
             HeaderLetters,
@@ -278,6 +346,10 @@ impl Situation {
             Credit(Creditor::BlockingRead, Worth::SeveralTurns) => vec![2],
             RefusedAfterAdding => vec![1, 2, 3, 4, 5, 7],
             OtherAfterAdding => vec![3, 5],
+            BoundReached => (1..=12).collect(),
+            BoundReachedAsking => vec![12, 13, 128, 129, 4_096],
+            BoundMissedBy => vec![3, 6, 9, 119, 128, 256, 384],
+            DeliveredAfterKey => vec![16, 24, 32],
             HeaderRight(_) => (0..=53).collect(),
             HeaderLetters => (1..=53).collect(),
             HeaderVersion => (4..=53).collect(),
@@ -312,12 +384,7 @@ impl fmt::Display for Situation {
                 return write!(f, "seed of 0 bits on 1,024 or more, then {next}");
             }
             Credit(creditor, worth) => {
-                let creditor = match creditor {
-                    Creditor::Event => "a device event",
-                    Creditor::Interrupt => "an interrupt",
-                    Creditor::Seed => "a seed",
-                    Creditor::BlockingRead => "a blocking read",
-                };
+                let creditor = creditor.name();
                 let worth = match worth {
                     Worth::NoBits => "credits nothing",
                     Worth::NoUnits => "credits bits and adds no units",
@@ -332,6 +399,12 @@ impl fmt::Display for Situation {
                     "first seeded by {}: more units added than left",
                     seeder.name()
                 );
+            }
+            BoundReachedAfter(call) => {
+                return write!(f, "the ledger's bound is reached after {}", call.name());
+            }
+            DeliveredAfter(creditor) => {
+                return write!(f, "bytes are delivered after {} earned", creditor.name());
             }
             AnswerIn(version) => return write!(f, "answers in version {}", version.number()),
             EndIn(version) => {
@@ -403,6 +476,12 @@ impl fmt::Display for Situation {
             NoTransfer(false) => "a blocking read adds nothing, the input pool has too little",
             RefusedAfterAdding => "refused with each number, right after a call that adds",
             OtherAfterAdding => "a write and a generator read, right after a call that adds",
+            BoundReached => "the ledger's bound is reached 1 to 12 times over",
+            BoundReachedAsking => {
+                "the ledger's bound is reached by a read of 12, 13, 128, 129, 4,096"
+            }
+            BoundMissedBy => "the ledger's bound is missed by 3, 6, 9, 119, 128, 256, 384",
+            DeliveredAfterKey => "bytes are delivered after a key took 16, 24, 32",
             HeaderLetters => "header with wrong letters, of each length",
             HeaderVersion => "header with a wrong version, of each length",
             OneLetterWrong => "header with one wrong letter, each of them",

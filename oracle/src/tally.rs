@@ -22,6 +22,7 @@ pub fn tally(journals: impl Iterator<Item = Vec<u8>>, out: &mut dyn Write) -> io
         missing += missing_values(&shown, situation).len();
     }
     writeln!(out, "{cost}")?;
+    writeln!(out, "{}", nearest(&shown))?;
     writeln!(out, "{missing} missing")?;
     Ok(missing == 0)
 }
@@ -47,6 +48,16 @@ fn how_often(shown: &Shown, situation: Situation) -> String {
         (all, 0) => format!("all {all}, each {least} to {most} times"),
         (all, some) => format!("{} of {all}, missing {}", all - some, ranges(&missing)),
     }
+}
+
+/// How near the journals come to the ledger's bound.
+fn nearest(shown: &Shown) -> String {
+    let reached = shown.times(Situation::BoundReached, 1);
+    let missed = match shown.least(Situation::BoundMissedBy) {
+        Some(least) => format!("the closest miss is by {least}"),
+        None => "no delivery misses it".to_owned(),
+    };
+    format!("the ledger's bound is reached in {reached} journals, {missed}")
 }
 
 /// Rising numbers as a person would tell them: `1 3 to 5 9`.
@@ -130,6 +141,32 @@ mod tests {
             assert!(complete, "{text}");
             assert!(text.ends_with("\n0 missing\n"));
         }
+    }
+
+    #[test]
+    fn the_closest_miss_of_a_run_is_told() {
+        let run: Vec<Shown> = run(1).iter().map(|journal| Shown::by(journal)).collect();
+        let mut all = Shown::default();
+        run.iter().for_each(|shown| all.add(shown));
+        let reached = run
+            .iter()
+            .filter(|shown| shown.times(Situation::BoundReached, 1) > 0)
+            .count();
+        assert!(reached >= 3);
+        let expected = format!(
+            "the ledger's bound is reached in {reached} journals, the closest miss is by 3"
+        );
+        assert_eq!(nearest(&all), expected);
+        // Without those that come closest, and without any.
+        let mut others = Shown::default();
+        for shown in &run {
+            if shown.times(Situation::BoundMissedBy, 3) == 0 {
+                others.add(shown);
+            }
+        }
+        assert!(nearest(&others).ends_with(", the closest miss is by 6"));
+        let expected = "the ledger's bound is reached in 0 journals, no delivery misses it";
+        assert_eq!(nearest(&Shown::default()), expected);
     }
 
     /// Each journal is replayed by a slow program too.

@@ -3,22 +3,31 @@
 use crate::balance::{self, Counts};
 use crate::journal::{self, Opened, Record, Version};
 use crate::keeper::{Answer, Keeper, DONE, NO_DEVICE};
+use crate::ledger::{Ledger, Sums};
 
-/// Makes the call that a record of a journal stands for. Gives the answer and
-/// the bytes that were delivered. A device that its version does not have is
-/// refused before the keeper hears of it.
-pub fn perform(version: Version, keeper: &mut Keeper, record: &Record) -> (Answer, Vec<u8>) {
+/// Makes the call that a record of a journal stands for, and enters it in the
+/// ledger that was begun with the keeper. Gives the answer and the bytes that were
+/// delivered.
+pub fn perform(
+    version: Version,
+    keeper: &mut Keeper,
+    ledger: &mut Ledger,
+    record: &Record,
+) -> (Answer, Vec<u8>) {
+    let (answer, bytes) = perform_in(version, keeper, record);
+    ledger.hold(record, &answer, Counts::of(keeper));
+    (answer, bytes)
+}
+
+/// A device that the version does not have is refused before the keeper hears of
+/// it.
+fn perform_in(version: Version, keeper: &mut Keeper, record: &Record) -> (Answer, Vec<u8>) {
     if let Record::Device { device, .. } = record {
         if *device >= version.devices() {
             return (Answer::refusal(NO_DEVICE), Vec::new());
         }
     }
-    let mut room = match record {
-        Record::Generator { length, .. } | Record::Blocking { length, .. } => {
-            vec![0; usize::from(*length)]
-        }
-        _ => Vec::new(),
-    };
+    let mut room = vec![0; record.wanted()];
     let answer = perform_into(keeper, record, &mut room);
     room.truncate(answer.delivered);
     (answer, room)
@@ -26,7 +35,7 @@ pub fn perform(version: Version, keeper: &mut Keeper, record: &Record) -> (Answe
 
 /// The call alone, with the caller's own room, whose length is the read's.
 /// Whatever is made, replayed or traced comes by here, so this is where the
-/// counts are checked.
+/// counts are checked, also those of a keeper that was not fresh.
 pub fn perform_into(keeper: &mut Keeper, record: &Record, room: &mut [u8]) -> Answer {
     let before = Counts::of(keeper);
     let answer = call(keeper, record, room);
@@ -34,7 +43,8 @@ pub fn perform_into(keeper: &mut Keeper, record: &Record, room: &mut [u8]) -> An
     answer
 }
 
-fn call(keeper: &mut Keeper, record: &Record, room: &mut [u8]) -> Answer {
+/// The same, unchecked.
+pub fn call(keeper: &mut Keeper, record: &Record, room: &mut [u8]) -> Answer {
     match record {
         Record::Device {
             now,
@@ -63,8 +73,9 @@ pub struct Step<'a> {
     pub answer: Answer,
     /// What a read delivered.
     pub bytes: &'a [u8],
-    /// The keeper after it.
+    /// The keeper after it, and what all calls came to up to here.
     pub keeper: &'a Keeper,
+    pub sums: Sums,
 }
 
 /// How a replay ended.
@@ -95,6 +106,7 @@ pub fn replay<'a>(journal: &'a [u8], show: &mut dyn FnMut(Step)) -> Ending<'a> {
         }
     };
     let mut keeper = Keeper::make(start).expect("a header that opens holds a whole start");
+    let mut ledger = Ledger::new(version.devices());
     loop {
         let rest = records.rest();
         let record = match records.next().unwrap_or(Err(DONE)) {
@@ -107,13 +119,14 @@ pub fn replay<'a>(journal: &'a [u8], show: &mut dyn FnMut(Step)) -> Ending<'a> {
                 }
             }
         };
-        let (answer, bytes) = perform(version, &mut keeper, &record);
+        let (answer, bytes) = perform(version, &mut keeper, &mut ledger, &record);
         show(Step {
             version,
             record: &record,
             answer,
             bytes: &bytes,
             keeper: &keeper,
+            sums: ledger.sums,
         });
     }
 }
@@ -129,6 +142,28 @@ pub fn transcript_and_keeper(journal: &[u8]) -> (String, Option<Keeper>) {
     let ending = replay(journal, &mut |step| out += &line(&step));
     out += &format!("end {}\n", ending.number);
     (out, ending.left.map(|(_, keeper)| keeper))
+}
+
+/// What a journal's calls came to: the bits awarded, the bytes delivered, the two
+/// sides of the bound, then what the input pool was given, has and gave, and what
+/// the blocking pool was given and has.
+pub fn sums(journal: &[u8]) -> String {
+    let mut last = (Sums::default(), Counts::default());
+    replay(journal, &mut |step| {
+        last = (step.sums, Counts::of(step.keeper));
+    });
+    let (sums, counts) = last;
+    let [delivered, awarded] = sums.sides();
+    format!(
+        "{} {} {delivered} {awarded} {} {} {} {} {}\n",
+        sums.awarded,
+        sums.delivered(),
+        sums.input.added,
+        counts.input,
+        sums.input.taken,
+        sums.blocking.added,
+        counts.blocking
+    )
 }
 
 fn line(step: &Step) -> String {
@@ -220,6 +255,40 @@ mod tests {
         assert_eq!(hex.len(), 24);
         assert_eq!(lines[2], "3 0 16896 0 0 0 0");
         assert_eq!(lines[3], "end 0");
+    }
+
+    #[test]
+    fn the_sums_of_a_journal() {
+        let round = [
+            Record::Seed {
+                now: 0,
+                credit: 128,
+                bytes: Cow::Owned(vec![1; 16]),
+            },
+            Record::Blocking { now: 0, length: 12 },
+        ];
+        let key = [Record::Seed {
+            now: 0,
+            credit: 171,
+            bytes: Cow::Owned(vec![1; 22]),
+        }];
+        for version in Version::ALL {
+            let sums = |records: &[Record]| sums(&journal(version, records));
+            assert_eq!(sums(&[]), "0 0 0 0 0 0 0 0 0\n");
+            assert_eq!(sums(&round[..1]), "128 0 0 1152 768 768 0 0 0\n");
+            assert_eq!(sums(&round), "128 9 1152 1152 768 0 12 576 0\n");
+            let twice = [&round[..], &round].concat();
+            assert_eq!(sums(&twice), "256 18 2304 2304 1536 0 24 1152 0\n");
+            // Bytes taken for a key, and units left in both pools.
+            let little = [Record::Blocking { now: 0, length: 1 }];
+            let after = [&key, &round[..1], &little].concat();
+            assert_eq!(sums(&after), "299 1 128 2691 1793 257 24 384 320\n");
+        }
+        // As far as it is replayed, which may be not at all.
+        let mut broken = journal(Version::Two, &round);
+        broken.push(9);
+        assert_eq!(sums(&broken), "128 9 1152 1152 768 0 12 576 0\n");
+        assert_eq!(sums(b"NKJ"), "0 0 0 0 0 0 0 0 0\n");
     }
 
     #[test]

@@ -1,11 +1,13 @@
 //! Reads off a journal, and off what its replay does, which situations it
 //! shows, whatever its maker had in mind.
 
+mod ledgers;
 mod new_devices;
 mod worths;
 
 use std::collections::BTreeMap;
 
+use self::ledgers::Ledgers;
 use self::new_devices::NewDevices;
 use self::worths::Worths;
 
@@ -31,6 +33,12 @@ impl Shown {
 
     pub fn times(&self, situation: Situation, value: u32) -> u64 {
         self.0.get(&(situation, value)).copied().unwrap_or(0)
+    }
+
+    /// The least value at which a situation came up, required or not.
+    pub fn least(&self, situation: Situation) -> Option<u32> {
+        let from = self.0.range((situation, 0)..=(situation, u32::MAX));
+        from.map(|((_, value), _)| *value).next()
     }
 
     pub fn add(&mut self, other: &Shown) {
@@ -111,6 +119,7 @@ struct Watch {
     timed: Option<TimedSpill>,
     new_devices: NewDevices,
     worths: Worths,
+    ledgers: Ledgers,
 }
 
 /// What a record is that may seed a keeper for the first time.
@@ -170,7 +179,9 @@ impl Watch {
         if after.seeded && !self.before.seeded {
             self.seeder = seeder(step.record);
         }
-        for (situation, value) in self.worths.step(step, &self.before, &after) {
+        let worths = self.worths.step(step, &self.before, &after);
+        let ledgers = self.ledgers.step(step, &self.before, &after);
+        for (situation, value) in worths.into_iter().chain(ledgers) {
             self.shown.see(situation, value);
         }
         if let Some(device) = device {

@@ -1,4 +1,4 @@
-// P7 to P12, the event that was worth 60 units, and a new device's first five events: calls on the ledger of a fresh keeper, of which all else is in range.
+// P7 to P12, the event that was worth 60 units, a new device's first five events, and the round that reaches the ledger's bound: calls on the ledger of a fresh keeper, of which all else is in range.
 use crate::print;
 use ledger::Gauge;
 use ledger::Ledger;
@@ -74,6 +74,17 @@ fn new_device() {
     event(b"its fifth event, now 31000:", fourth, 31000);
 }
 
+// 128 bits awarded, 9 bytes delivered, and both counts 0 again: 128 times 9 is 9 times 128, and no more can be had for them.
+fn at_the_bound() {
+    let paid = decide::decide_seed(true, fresh(), 0, 16, 128);
+    print::plan(b"at the bound, credit 128:", paid);
+    let l = paid.ledger;
+    print::plan(
+        b"then a blocking read of 12:",
+        decide::decide_blocking_read(true, l, 12),
+    );
+}
+
 pub fn run() {
     print::plan(b"P7 credit 170:", seeded(170));
     print::plan(b"P8 credit 171:", seeded(171));
@@ -83,4 +94,5 @@ pub fn run() {
     blocking(much);
     reads(seeded(256));
     new_device();
+    at_the_bound();
 }

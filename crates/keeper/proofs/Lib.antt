@@ -11,3 +11,5 @@ pub mod Work
 pub mod KeyChange
 pub mod NewDevices
 pub mod Worth
+pub mod LedgerOfBits
+pub mod SmallOutcomes

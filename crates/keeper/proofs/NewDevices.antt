@@ -1,6 +1,6 @@
 -- New devices earn nothing at first, of whole keepers: `ledger` has it of what can be seen, and that is all that a call shows.
 use mathlib.Core.Path.{_≡_, refl, sym, ap, subst, _∙_}
-use mathlib.Core.List.{List, [], _∷_, map}
+use mathlib.Core.List.{List, [], _∷_, map, reverse}
 use Prim.Native.Nat.{ℕ, _<_}
 use lib.ListN.{length}
 use Rattle.ledger.specs.Sizes.{devices, startBytes, eventsBefore}
@@ -22,19 +22,19 @@ use Rattle.keeper.proofs.Blind.{fresh-whole}
 use Rattle.keeper.proofs.StaysInRange.{after-fine}
 
 -- what can be seen after calls
-view-after : (k : Keeper) (cs : List Call) → Whole k → view (keeperAfter k cs) ≡ viewAfter (view k) (map public cs)
+pub view-after : (k : Keeper) (cs : List Call) → Whole k → view (keeperAfter k cs) ≡ viewAfter (view k) (map public cs)
 unfolding keeperAfter viewAfter
 view-after k [] w = refl
 view-after k (c ∷ cs) w = view-after ((told k c) .keeper) cs (stays-whole k c w) ∙ ap (λ (v : View). viewAfter v (map public cs)) (view-is k c w)
 
 -- from a fresh keeper on, whatever the calls, an event earns by the clocks of its device's kept events and by nothing else
 pub earned-by-clocks : (start : List ℕ) (device now : ℕ) (cs : List Call) → length start ≡ startBytes → device < devices
-    → eventBits now (deviceTimer (keeperAfter (fresh start) cs) device) ≡ earned now (keptClocks device (map public cs))
+    → eventBits now (deviceTimer (keeperAfter (fresh start) cs) device) ≡ earned now (keptClocks device (reverse (map public cs)))
 earned-by-clocks start device now cs h d =
     ap (λ (v : View). eventBits now (timerOf (v .timers) device)) (view-after (fresh start) cs (fresh-whole start h)) ∙ Seen.earned-by-clocks device now (map public cs) d
 
 -- and one before which fewer than three of its device were kept earns nothing
-pub nothing-at-first : (start : List ℕ) (device now stamp value : ℕ) (cs : List Call) → length start ≡ startBytes → device < devices → length (keptClocks device (map public cs)) < eventsBefore
+pub nothing-at-first : (start : List ℕ) (device now stamp value : ℕ) (cs : List Call) → length start ≡ startBytes → device < devices → length (keptClocks device (reverse (map public cs))) < eventsBefore
     → let k = keeperAfter (fresh start) cs in
     let o = told k (deviceEvent device now stamp value) in
     EarnsNothing (k .ledger) (o .keeper .ledger) (o .answer)

@@ -4,5 +4,6 @@ pub mod Record
 pub mod Calls
 pub mod Narrative
 pub mod Obey
+pub mod Taken
 pub mod Demands
 pub mod Work

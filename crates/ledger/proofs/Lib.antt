@@ -6,7 +6,13 @@ pub mod Blocking
 pub mod Still
 pub mod Marked
 pub mod KeptTimers
+pub mod CallsAlone
 pub mod FewDevices
 pub mod NewDevices
 pub mod SmallPlans
 pub mod Worth
+pub mod Awarded
+pub mod LedgerOfBits
+pub mod BoundReached
+pub mod AwardCases
+pub mod SmallAnswers

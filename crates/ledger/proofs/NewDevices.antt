@@ -3,7 +3,7 @@
 -- timer enters no credit.
 use mathlib.Core.Path.{_≡_, refl, _∙_, ap}
 use mathlib.Core.Bool.{Bool, false}
-use mathlib.Core.List.{List, [], _∷_}
+use mathlib.Core.List.{List, [], _∷_, reverse}
 use Prim.Native.Nat.{ℕ, _<_, min}
 use native.Mathlib.Omega.{arith}
 use lib.ListN.{length}
@@ -24,7 +24,8 @@ use Rattle.ledger.specs.declared.Plan.{Plan}
 use Rattle.ledger.specs.declared.Timer.{Timer}
 use Rattle.ledger.proofs.Picks.{pick-both}
 use Rattle.ledger.proofs.InRange.{viewAfter}
-use Rattle.ledger.proofs.KeptTimers.{timerBy, timer-by-clocks}
+use Rattle.ledger.proofs.KeptTimers.{timerBy}
+use Rattle.ledger.proofs.CallsAlone.{timer-by-clocks}
 
 -- ---- what is earned
 -- kept events are counted up to three
@@ -37,7 +38,7 @@ three-came : (a b c : ℕ) (older : List ℕ) → (timerBy (a ∷ b ∷ c ∷ ol
 three-came a b c older = let e = came-counts (a ∷ b ∷ c ∷ older) in omega arith
 
 -- by the clocks: nothing before three, and then by four clocks that were told
-earned-by : (now : ℕ) (before : List ℕ) → eventBits now (timerBy before) ≡ earned now before
+pub earned-by : (now : ℕ) (before : List ℕ) → eventBits now (timerBy before) ≡ earned now before
 unfolding eventBits timerBy earned pick
 earned-by now [] = refl
 earned-by now (a ∷ []) = refl
@@ -45,8 +46,8 @@ earned-by now (a ∷ b ∷ []) = refl
 earned-by now (a ∷ b ∷ c ∷ older) = rw (three-came a b c older) refl
 
 -- an event earns by the clocks of its device's kept events and by nothing else
-pub earned-by-clocks : (device now : ℕ) (cs : List PublicCall) → device < devices → eventBits now (timerOf ((viewAfter freshView cs) .timers) device) ≡ earned now (keptClocks device cs)
-earned-by-clocks device now cs h = ap (eventBits now) (timer-by-clocks device cs h) ∙ earned-by now (keptClocks device cs)
+pub earned-by-clocks : (device now : ℕ) (cs : List PublicCall) → device < devices → eventBits now (timerOf ((viewAfter freshView cs) .timers) device) ≡ earned now (keptClocks device (reverse cs))
+earned-by-clocks device now cs h = ap (eventBits now) (timer-by-clocks device cs h) ∙ earned-by now (keptClocks device (reverse cs))
 
 -- ---- a device's first three kept events
 -- a plan that leaves the counts and the seeding, works nothing and adds nothing
@@ -82,13 +83,13 @@ few now (a ∷ b ∷ []) h = refl
 few now (a ∷ b ∷ c ∷ older) h = absurd (omega arith)
 
 -- from a fresh keeper on, whatever the calls: an event before which fewer than three of its device were kept earns nothing
-pub nothing-at-first : (device now value : ℕ) (cs : List PublicCall) → device < devices → length (keptClocks device cs) < eventsBefore
+pub nothing-at-first : (device now value : ℕ) (cs : List PublicCall) → device < devices → length (keptClocks device (reverse cs)) < eventsBefore
     → let v = viewAfter freshView cs in
     let s = stepView v (event device now value) in
     EarnsNothing (v .ledger) (s .view .ledger) (s .answer)
 unfolding stepView planned
 nothing-at-first device now value cs h k =
     let v = viewAfter freshView cs in
-    let e = earned-by-clocks device now cs h ∙ few now (keptClocks device cs) k in
+    let e = earned-by-clocks device now cs h ∙ few now (keptClocks device (reverse cs)) k in
     let u = event-unpaid (othersInRange (v .timers) (v .fixed)) (v .ledger) (timerOf (v .timers) device) device now value e in
     record { input = u .input; blocking = u .blocking; seeding = u .seeding; compressions = u .compressions; added = u .added }

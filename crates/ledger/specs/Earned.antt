@@ -1,35 +1,40 @@
--- What an event of a device earns, told from the calls that were made before it and from no timer.
+-- What an event of a device earns, told from the calls that were made before it and from no keeper's record. Earlier calls stand newest first.
 use mathlib.Core.Path.{_≡_}
-use mathlib.Core.Bool.{_&&_}
+use mathlib.Core.Bool.{Bool, _&&_, not}
 use mathlib.Core.List.{List, [], _∷_}
 use Prim.Native.Nat.{ℕ, min}
-use lib.Dec.{eqb}
+use lib.Dec.{ltb, eqb}
 use lib.IntN.{_-ℤ_, natAbs}
 use Rattle.ledger.specs.Choice.{pick}
-use Rattle.ledger.specs.Numbers.{done}
+use Rattle.ledger.specs.Sizes.{devices}
 use Rattle.ledger.specs.Clocks.{clockDiff, estimate}
-use Rattle.ledger.specs.Range.{View}
 use Rattle.ledger.specs.PublicCalls.{PublicCall, event, interrupt, write, seed, read, blockingRead}
-use Rattle.ledger.specs.Machine.{freshView, stepView}
 use Rattle.ledger.specs.declared.Ledger.{Ledger}
 use Rattle.ledger.specs.declared.Answer.{Answer}
 
--- the clocks of a device's kept events, newest first, with one more call: an event of that device is kept where it is answered 0
-abbrev pub clocksWith : ℕ → View → List ℕ → PublicCall → List ℕ
-clocksWith device v before (event d now value) = pick (eqb d device && eqb ((stepView v (event d now value)) .answer .number) done) (now ∷ before) before
-clocksWith device v before (interrupt now number) = before
-clocksWith device v before (write len) = before
-clocksWith device v before (seed now len credit) = before
-clocksWith device v before (read now len) = before
-clocksWith device v before (blockingRead len) = before
+-- the value that is kept of device 0: that of its last event, for one that repeats has the same; 0 before the first
+unfoldable pub lastValue : List PublicCall → ℕ
+lastValue [] = 0
+lastValue (event device now value ∷ earlier) = pick (eqb device 0) value (lastValue earlier)
+lastValue (interrupt now number ∷ earlier) = lastValue earlier
+lastValue (write len ∷ earlier) = lastValue earlier
+lastValue (seed now len credit ∷ earlier) = lastValue earlier
+lastValue (read now len ∷ earlier) = lastValue earlier
+lastValue (blockingRead len ∷ earlier) = lastValue earlier
 
-unfoldable pub clocksFrom : ℕ → View → List ℕ → List PublicCall → List ℕ
-clocksFrom device v before [] = before
-clocksFrom device v before (c ∷ cs) = clocksFrom device ((stepView v c) .view) (clocksWith device v before c) cs
+-- an event is kept: there is such a device, and on device 0 the value is not the one that is kept already
+abbrev pub isKept : ℕ → ℕ → List PublicCall → Bool
+isKept device value earlier = ltb device devices && not (eqb device 0 && eqb value (lastValue earlier))
 
--- the same from a fresh keeper on
-abbrev pub keptClocks : ℕ → List PublicCall → List ℕ
-keptClocks device cs = clocksFrom device freshView [] cs
+-- the clocks of a device's kept events, newest first
+unfoldable pub keptClocks : ℕ → List PublicCall → List ℕ
+keptClocks device [] = []
+keptClocks device (event d now value ∷ earlier) = pick (eqb d device && isKept d value earlier) (now ∷ keptClocks device earlier) (keptClocks device earlier)
+keptClocks device (interrupt now number ∷ earlier) = keptClocks device earlier
+keptClocks device (write len ∷ earlier) = keptClocks device earlier
+keptClocks device (seed now len credit ∷ earlier) = keptClocks device earlier
+keptClocks device (read now len ∷ earlier) = keptClocks device earlier
+keptClocks device (blockingRead len ∷ earlier) = keptClocks device earlier
 
 -- the least of the three absolute amounts, between four events: the one at `now`, and those at a, b and c before it
 abbrev pub leastBetween : ℕ → ℕ → ℕ → ℕ → ℕ

@@ -14,3 +14,5 @@ pub mod Plans
 pub mod Machine
 pub mod Earned
 pub mod Worth
+pub mod Awards
+pub mod LedgerOfBits

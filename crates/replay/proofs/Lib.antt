@@ -5,3 +5,5 @@ pub mod Transcribed
 pub mod CutShort
 pub mod PublicJournals
 pub mod OldDevices
+pub mod Columns
+pub mod LedgerOfBits

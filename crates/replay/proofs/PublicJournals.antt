@@ -1,20 +1,19 @@
 -- Demand 3 for journals: two journals whose records have the same kinds and the same public fields, and which end with the same number, have
 -- one transcript but for the hex.
 use mathlib.Core.Path.{_≡_, refl, sym, ap, _∙_}
-use mathlib.Core.Bool.{Bool}
 use mathlib.Core.List.{List, [], _∷_, _++_, map, append-assoc, head-eq-of-cons-eq, tail-eq-of-cons-eq}
-use Prim.Native.Nat.{ℕ, zero, suc, _+_, _/_, _%_, _≤_}
+use Prim.Native.Nat.{ℕ, suc, _+_, _≤_}
 use native.Mathlib.Omega.{arith}
 use borrow.Author.Tests.{ne-eqb}
-use lib.Dec.{ltb}
 use lib.ListN.{length, replicate}
 use Rattle.ledger.specs.Choice.{pick}
 use Rattle.journal.specs.Header.{headerOf, startOf}
 use Rattle.journal.specs.Walking.{endingOf}
 use Rattle.journal.proofs.Laws.{start-48}
-use Rattle.transcript.specs.Text.{digits, decimalOf, wordOf, glyphOf, hexOf, tailOf}
+use Rattle.transcript.specs.Text.{decimalOf, wordOf, hexOf, tailOf}
 use Rattle.transcript.specs.Lines.{lineOf, endOf}
 use Rattle.transcript.proofs.Laws.{length-hex}
+use Rattle.transcript.proofs.Digits.{Digits, no-digit, digit, decimal-digits, hex-digits}
 use Rattle.keeper.specs.Record.{Outcome, fresh}
 use Rattle.keeper.specs.Calls.{Call, public}
 use Rattle.keeper.specs.Narrative.{told}
@@ -22,34 +21,10 @@ use Rattle.keeper.specs.Demands.{shown, Alike, outcomes}
 use Rattle.keeper.specs.declared.Keeper.{Keeper}
 use Rattle.ledger.specs.Machine.{Shown}
 use Rattle.ledger.specs.declared.Answer.{Answer}
-use Rattle.ledger.proofs.Picks.{pick-both}
 use Rattle.keeper.proofs.Refusals.{delivered}
 use Rattle.keeper.proofs.Blind.{demand-3}
 use Rattle.replay.specs.Running.{lineFor}
 use Rattle.replay.specs.Whole.{callsOf, outcomesOf, linesOf, transcriptOf, spacesLeft, blot, blottedFrom, blotted}
-
--- ---- digits, decimal and hexadecimal, are neither spaces nor newlines
-data Digits : List ℕ → Type 0 where
-  no-digit : Digits []
-  digit : {b : ℕ} {text : List ℕ} → 48 ≤ b → Digits text → Digits (b ∷ text)
-
-behind-digits : (s t : List ℕ) → Digits s → Digits t → Digits (s ++ t)
-behind-digits [] t no-digit q = q
-behind-digits (b ∷ s) t (digit h p) q = digit h (behind-digits s t p q)
-
-decimal-digits : (k n : ℕ) → Digits (digits k n)
-unfolding digits
-decimal-digits zero n = no-digit
-decimal-digits (suc k) n =
-    pick-both Digits (ltb n 10) (digit (omega arith) no-digit) (behind-digits _ _ (decimal-digits k (n / 10)) (digit (omega arith) no-digit))
-
-a-glyph : (b : Bool) (d : ℕ) → 48 ≤ pick b (48 + d) (87 + d)
-a-glyph b d = pick-both (λ (n : ℕ). 48 ≤ n) b (omega arith) (omega arith)
-
-hex-digits : (bytes : List ℕ) → Digits (hexOf bytes)
-unfolding hexOf glyphOf
-hex-digits [] = no-digit
-hex-digits (b ∷ bytes) = digit (a-glyph (ltb (b / 16) 10) (b / 16)) (digit (a-glyph (ltb (b % 16) 10) (b % 16)) (hex-digits bytes))
 
 -- ---- a line with its hex blotted out
 same-left : (n b : ℕ) → 48 ≤ b → spacesLeft n b ≡ n

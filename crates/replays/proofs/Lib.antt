@@ -1,2 +1,4 @@
 pub mod Transcripts
 pub mod Converted
+pub mod Columns
+pub mod LedgerOfBits

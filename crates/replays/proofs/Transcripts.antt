@@ -33,7 +33,7 @@ abbrev opening : List ℕ
 opening = 78 ∷ 75 ∷ 74 ∷ 1 ∷ 0 ∷ []
 
 -- `end 0`
-abbrev end-0 : List ℕ
+abbrev pub end-0 : List ℕ
 end-0 = 101 ∷ 110 ∷ 100 ∷ 32 ∷ 48 ∷ 10 ∷ []
 
 -- ---- the paper's example: 48 zero bytes, and a generator read of 4 bytes before seeding
@@ -55,7 +55,7 @@ abbrev event : List ℕ
 event = 1 ∷ 220 ∷ 5 ∷ 0 ∷ 0 ∷ 1 ∷ 239 ∷ 205 ∷ 171 ∷ 137 ∷ 103 ∷ 69 ∷ 35 ∷ 1 ∷ 7 ∷ 0 ∷ 0 ∷ 0 ∷ []
 
 -- `0 0 0 0 0 0 0`
-abbrev event-line : List ℕ
+abbrev pub event-line : List ℕ
 event-line = 48 ∷ 32 ∷ 48 ∷ 32 ∷ 48 ∷ 32 ∷ 48 ∷ 32 ∷ 48 ∷ 32 ∷ 48 ∷ 32 ∷ 48 ∷ 10 ∷ []
 
 -- an interrupt, late enough to spill
@@ -64,7 +64,7 @@ interrupt = 2 ∷ 221 ∷ 5 ∷ 0 ∷ 0 ∷ 9 ∷ 0 ∷ 0 ∷ 0 ∷ 239 ∷ 205 
     []
 
 -- `0 0 6 0 0 0 6`
-abbrev interrupt-line : List ℕ
+abbrev pub interrupt-line : List ℕ
 interrupt-line = 48 ∷ 32 ∷ 48 ∷ 32 ∷ 54 ∷ 32 ∷ 48 ∷ 32 ∷ 48 ∷ 32 ∷ 48 ∷ 32 ∷ 54 ∷ 10 ∷ []
 
 -- a seed of 22 bytes with 171 bits, which seeds the keeper
@@ -73,7 +73,7 @@ seeding = 4 ∷ 222 ∷ 5 ∷ 0 ∷ 0 ∷ 22 ∷ 0 ∷ 171 ∷ 0 ∷ 0 ∷ 0 ∷
     18 ∷ 19 ∷ 20 ∷ 21 ∷ []
 
 -- `0 0 7 0 0 16 1025`
-abbrev seeding-line : List ℕ
+abbrev pub seeding-line : List ℕ
 seeding-line = 48 ∷ 32 ∷ 48 ∷ 32 ∷ 55 ∷ 32 ∷ 48 ∷ 32 ∷ 48 ∷ 32 ∷ 49 ∷ 54 ∷ 32 ∷ 49 ∷ 48 ∷ 50 ∷ 53 ∷ 10 ∷ []
 
 -- a generator read of 8 bytes
@@ -81,7 +81,7 @@ abbrev eight : List ℕ
 eight = 5 ∷ 223 ∷ 5 ∷ 0 ∷ 0 ∷ 8 ∷ 0 ∷ []
 
 -- `0 8 7 0 1 0 0 a9c7a150f8824f67`
-abbrev eight-line : List ℕ
+abbrev pub eight-line : List ℕ
 eight-line = 48 ∷ 32 ∷ 56 ∷ 32 ∷ 55 ∷ 32 ∷ 48 ∷ 32 ∷ 49 ∷ 32 ∷ 48 ∷ 32 ∷ 48 ∷ 32 ∷ 97 ∷ 57 ∷ 99 ∷ 55 ∷ 97 ∷ 49 ∷ 53 ∷ 48 ∷ 102 ∷ 56 ∷ 56 ∷ 50 ∷ 52 ∷ 102 ∷ 54 ∷ 55 ∷ 10 ∷ []
 
 -- a seed of 16 bytes with 128 bits
@@ -90,7 +90,7 @@ credit = 4 ∷ 224 ∷ 5 ∷ 0 ∷ 0 ∷ 16 ∷ 0 ∷ 128 ∷ 0 ∷ 0 ∷ 0 ∷ 
     111 ∷ 112 ∷ []
 
 -- `0 0 774 0 0 0 767`
-abbrev credit-line : List ℕ
+abbrev pub credit-line : List ℕ
 credit-line = 48 ∷ 32 ∷ 48 ∷ 32 ∷ 55 ∷ 55 ∷ 52 ∷ 32 ∷ 48 ∷ 32 ∷ 48 ∷ 32 ∷ 48 ∷ 32 ∷ 55 ∷ 54 ∷ 55 ∷ 10 ∷ []
 
 -- a blocking read of 3 bytes, which leaves 262 units in the one pool and 192 in the other
@@ -98,10 +98,10 @@ abbrev three : List ℕ
 three = 6 ∷ 225 ∷ 5 ∷ 0 ∷ 0 ∷ 3 ∷ 0 ∷ []
 
 -- `0 3 262 192 0 10 384 595a27`
-abbrev three-line : List ℕ
+abbrev pub three-line : List ℕ
 three-line = 48 ∷ 32 ∷ 51 ∷ 32 ∷ 50 ∷ 54 ∷ 50 ∷ 32 ∷ 49 ∷ 57 ∷ 50 ∷ 32 ∷ 48 ∷ 32 ∷ 49 ∷ 48 ∷ 32 ∷ 51 ∷ 56 ∷ 52 ∷ 32 ∷ 53 ∷ 57 ∷ 53 ∷ 97 ∷ 50 ∷ 55 ∷ 10 ∷ []
 
-abbrev six : List ℕ
+abbrev pub six : List ℕ
 six = opening ++ (start ++ (event ++ (interrupt ++ (seeding ++ (eight ++ (credit ++ three))))))
 
 pub six-told : transcriptOf six ≡ event-line ++ (interrupt-line ++ (seeding-line ++ (eight-line ++ (credit-line ++ (three-line ++ end-0)))))

@@ -7,3 +7,4 @@ pub mod PublicAlone
 pub mod NewDevices
 pub mod WorkReal
 pub mod Worth
+pub mod LedgerOfBits

@@ -1,2 +1,4 @@
 pub mod Laws
 pub mod Vectors
+pub mod Digits
+pub mod Columns

@@ -7,6 +7,7 @@ use super::HALF;
 use crate::credits::{clock_difference, credited};
 use crate::journal::{self, Record, Version};
 use crate::keeper::{least_bytes, Keeper, LONGEST, START};
+use crate::ledger::Ledger;
 use crate::pools::INPUT;
 use crate::random::Random;
 use crate::transcript::perform;
@@ -21,6 +22,7 @@ pub struct Draft {
     pub version: Version,
     pub bytes: Vec<u8>,
     pub keeper: Keeper,
+    ledger: Ledger,
     pub now: u32,
 }
 
@@ -30,6 +32,7 @@ impl Draft {
             version,
             bytes: journal::header(version, &start),
             keeper: Keeper::make(&start).expect("the start has its length"),
+            ledger: Ledger::new(version.devices()),
             now,
         }
     }
@@ -47,7 +50,7 @@ impl Draft {
 
     pub fn add(&mut self, record: Record) {
         record.write(self.version, &mut self.bytes);
-        perform(self.version, &mut self.keeper, &record);
+        perform(self.version, &mut self.keeper, &mut self.ledger, &record);
     }
 
     /// A device that the journal's version has.
@@ -112,6 +115,16 @@ impl Draft {
             stamp: random.u64(),
             value: self.keeper.last_value,
         });
+    }
+
+    /// An event of a number that no device has, but for its high bits that of this
+    /// one, at a clock where this one's would be worth something.
+    pub fn no_device_like(&mut self, random: &mut Random, device: u32) {
+        let now = self.worthy_clock(random, device);
+        let devices = self.version.devices();
+        let most = self.version.last_number() / devices;
+        let high = random.between(1, most.into()) as u32;
+        self.device(random, high * devices + device, now);
     }
 
     fn worthy_clock(&self, random: &mut Random, device: u32) -> u32 {
