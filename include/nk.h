@@ -269,8 +269,8 @@ NK_LOOK struct nk_answer nk_read(struct nk_keeper *k, uint32_t now, uint8_t *out
 /* Hands out bytes of the blocking pool, up to `len` and no more than its credit covers; `delivered` says how many, at least 1 where
  * `len` is at least 1. Where the blocking pool has too little, bytes are first brought over from the input pool, 8 to 128, if the
  * input pool has credit for 8. Bytes of the room past the delivered ones keep their contents. It never waits: ask again later for
- * the rest. Over all calls since nk_make, 8 x the bytes that blocking reads delivered are at most 9/16 of the bits that events, interrupts
- * and seeds awarded, as they are before a pool takes its part of them.
+ * the rest. Over all calls since nk_make, 8 x the bytes that blocking reads delivered are at most 9/16 of the bits that events (their
+ * estimate), interrupts (1 at a spill) and seeds (their credit) were good for before a pool dampened them, refused ones for none.
  * A length of 0 is NK_DONE and changes nothing.
  * Refused, in this order: NK_OUT_OF_RANGE; NK_TOO_LONG; NK_WOULD_BLOCK, exactly if the blocking count is below 64 and the input count
  * below 512. */

@@ -27,7 +27,7 @@ abbrev bits : List Case → List ℕ
 bits [] = []
 bits (x ∷ xs) = x .bits ∷ bits xs
 
--- device 0: the value 0 is kept of no event and repeats; an event that repeats is no event of the device's. The fourth kept one has differences
+-- device 0: the value 0 repeats even before any event; an event that repeats is no event of the device's. The fourth kept one has differences
 -- 6,000, 4,100 and 3,200, the fifth 5,000, 1,000 and 5,100; one in between on another device or on none has no say
 abbrev events : List Case
 events =

@@ -1,7 +1,7 @@
 -- What earlier calls leave of a fresh keeper, told by the calls alone: a device's timer is what the clocks of its kept events leave, device 0's value
 -- is that of its last event, and the spill is what the clocks of the interrupts leave, whatever else was called.
 use mathlib.Core.Path.{_≡_, refl, sym, _∙_, ap}
-use mathlib.Core.Bool.{Bool, true, false, _&&_, _||_, not, and-true, and-false, false≢true}
+use mathlib.Core.Bool.{Bool, true, false, _&&_, not, and-true, and-false, false≢true}
 use mathlib.Core.List.{List, [], _∷_, reverse, reverseAux}
 use Prim.Native.Nat.{ℕ, _+_, _<_}
 use native.Mathlib.Omega.{arith}
@@ -101,23 +101,17 @@ under-event d now value earlier v p f (keeps k) g =
     }
 
 -- ---- after an interrupt
-at-least : (a b : ℕ) → leb b a ≡ not (ltb a b)
-at-least a b = go (ltb a b) refl
-  where
-    go : (q : Bool) → ltb a b ≡ q → leb b a ≡ not q
-    go true q = lt-leb b a (ltb-true a b q)
-    go false q = le-leb b a (ltb-false a b q)
-
-neither : (x y : Bool) → (not x || y) ≡ not (x && not y)
-neither true true = refl
-neither true false = refl
-neither false y = refl
-
 -- it spills exactly where it does not only stir
 pub spills-is : (now : ℕ) (l : Ledger) → spills now (l .spill) ≡ not (stays now l)
-spills-is now l =
-    let late = exceeds (clockDiff now (l .spill .clock)) 1000 in
-    ap (λ (x : Bool). x || late) (at-least (l .spill .tally + 1) 64) ∙ neither (ltb (l .spill .tally + 1) 64) late
+spills-is now l = go (ltb n 64) refl (exceeds (clockDiff now (l .spill .clock)) 1000) refl
+  where
+    n : ℕ
+    n = l .spill .tally + 1
+
+    go : (q : Bool) → ltb n 64 ≡ q → (late : Bool) → exceeds (clockDiff now (l .spill .clock)) 1000 ≡ late → spills now (l .spill) ≡ not (stays now l)
+    go true q true e = rw (q, e, lt-leb 64 n (ltb-true n 64 q)) refl
+    go true q false e = rw (q, e, lt-leb 64 n (ltb-true n 64 q)) refl
+    go false q late e = rw (q, e, le-leb 64 n (ltb-false n 64 q)) refl
 
 -- the spill that its clock leaves
 interrupt-spill : (now : ℕ) (l : Ledger) (before : List ℕ) → l .spill ≡ spillBy before → (planInterrupt now l) .ledger .spill ≡ spillBy (now ∷ before)
@@ -158,12 +152,9 @@ isEvent (read now len) = false
 isEvent (blockingRead len) = false
 
 interrupt-apart : (now : ℕ) (l : Ledger) → Apart l ((planInterrupt now l) .ledger .spill) (planInterrupt now l)
-unfolding planInterrupt feed pick
-interrupt-apart now l = go (stays now l)
-  where
-    go : (q : Bool) → let p = pick q (planOf 0 (tallied l) 0 true false 0 0 0 0) (feed now true 1 (spilled now l)) in Apart l (p .ledger .spill) p
-    go true = record { keeps = refl; value = refl; spill = refl }
-    go false = record { keeps = refl; value = refl; spill = refl }
+unfolding planInterrupt feed
+interrupt-apart now l =
+    pick-both (λ (p : Plan). Apart l (p .ledger .spill) p) (stays now l) (record { keeps = refl; value = refl; spill = refl }) (record { keeps = refl; value = refl; spill = refl })
 
 apart : (l : Ledger) (t : Timer) (c : PublicCall) → isEvent c ≡ false → Apart l (spillWith c l) (planCall l t c)
 unfolding planCall planWrite planSeed planRead planBlockingRead spillWith feed
@@ -180,7 +171,7 @@ apart l t (blockingRead len) h =
     let P = Apart l (l .spill) in
     pick-both P _ (none 3 l) (pick-both P _ (none 0 l) (pick-both P _ (none 1 l) (record { keeps = refl; value = refl; spill = refl })))
 
--- calls before which no event was made leave the same clocks and the same value
+-- a call that is no event leaves the same clocks and the same value
 record Same (earlier later : List PublicCall) : Type 0 where
   clocks : (device : ℕ) → keptClocks device later ≡ keptClocks device earlier
   value : lastValue later ≡ lastValue earlier

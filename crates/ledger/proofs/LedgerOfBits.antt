@@ -88,8 +88,8 @@ books cs =
       passed = b .passed;
     }
 
--- WHAT IS LEFT is paid for too: the bound is missed by what is still counted in either pool and by what went onto the key, so only a keeper whose
--- counts are 0 and which was never seeded can meet it
+-- WHAT IS LEFT is paid for too: the bound is missed at least by what is still counted, 3/2 for a unit of the input pool and 2 for one of the blocking
+-- pool, and by 96 for each byte that went onto the key; so only a keeper whose counts are 0 and which was never seeded can meet it
 pub spent : {cs : List PublicCall} {answers : List Answer} {inputCount blockingCount reseeds transfers : ℕ} → Books cs answers inputCount blockingCount reseeds transfers
     → 256 * delivered cs answers + 3 * inputCount + 4 * blockingCount + 192 * reseeds ≤ 18 * awarded cs
 spent b = omega (arith, b .input, b .blocking, b .damped, b .passed)

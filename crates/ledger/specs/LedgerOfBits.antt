@@ -1,4 +1,4 @@
--- The ledger of bits: what blocking reads hand out is paid for by what calls awarded, with a loss of a quarter at each of two pools.
+-- The ledger of bits: what blocking reads hand out is paid for by what calls awarded, with a loss of at least a quarter at each of two pools.
 --
 -- Counts are in eighths of a bit, units: a bit is 8 of them, a byte 64. Crediting n bits adds at most three quarters of their 8 n units: six
 -- units a bit. A byte that is taken costs 64, so a bit awarded pays for at most 6/64 of a byte brought over. Such a byte is credited as

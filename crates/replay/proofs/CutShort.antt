@@ -87,14 +87,14 @@ module _ (n : ℕ) (j : List ℕ) where
       (λ h _. let z = ne-eqb (headerOf (take n j) .number) 0 h in rw (← header-cut n j, z) refl)
 
 -- ---- of a journal with a good header: the first outcomes, as many as records end within the cut
-first-outcomes : (k : Keeper) (m : ℕ) (cs : List Call) → outcomes k (take m cs) ≡ take m (outcomes k cs)
+pub first-outcomes : (k : Keeper) (m : ℕ) (cs : List Call) → outcomes k (take m cs) ≡ take m (outcomes k cs)
 unfolding outcomes
 first-outcomes k zero cs = refl
 first-outcomes k (suc m) [] = refl
 first-outcomes k (suc m) (c ∷ cs) = ap (λ (os : List Outcome). told k c ∷ os) (first-outcomes ((told k c) .keeper) m cs)
 
 -- the first of what is made of each
-map-take : {A B : Type 0} (f : A → B) (m : ℕ) (l : List A) → map f (take m l) ≡ take m (map f l)
+pub map-take : {A B : Type 0} (f : A → B) (m : ℕ) (l : List A) → map f (take m l) ≡ take m (map f l)
 map-take f zero l = refl
 map-take f (suc m) [] = refl
 map-take f (suc m) (x ∷ l) = ap (λ ys. f x ∷ ys) (map-take f m l)

@@ -1,9 +1,10 @@
 -- The ledger of bits, of journals: the sums are those of what a reader reads in the lines of the transcript, up to any line.
-use mathlib.Core.Path.{_≡_, refl, ap}
+use mathlib.Core.Path.{_≡_, refl, sym, ap}
 use mathlib.Core.List.{List, [], _∷_, map}
-use Prim.Native.Nat.{ℕ, zero, suc}
+use Prim.Native.Nat.{ℕ}
 use native.Mathlib.Omega.{arith}
 use lib.ListN.{length, take}
+use lib.Seq.{take-nil}
 use Rattle.ledger.specs.LedgerOfBits.{summed}
 use Rattle.ledger.specs.Awards.{awardsFrom}
 use Rattle.ledger.specs.declared.Answer.{Answer}
@@ -22,19 +23,8 @@ use Rattle.keeper.proofs.LedgerOfBits as Told
 use Rattle.replay.specs.Whole.{callsOf, outcomesOf, transcriptOf}
 use Rattle.replay.specs.Columns.{rowFor}
 use Rattle.replay.specs.LedgerOfBits.{answerIn, lastAt, BooksRead}
+use Rattle.replay.proofs.CutShort.{first-outcomes, map-take}
 use Rattle.replay.proofs.Columns.{rows-read}
-
--- ---- the first n calls
-first-outcomes : (n : ℕ) (k : Keeper) (cs : List Call) → take n (outcomes k cs) ≡ outcomes k (take n cs)
-unfolding outcomes
-first-outcomes zero k cs = refl
-first-outcomes (suc n) k [] = refl
-first-outcomes (suc n) k (c ∷ cs) = ap (λ (os : List Outcome). told k c ∷ os) (first-outcomes n ((told k c) .keeper) cs)
-
-first-of : {A B : Type 0} (f : A → B) (n : ℕ) (xs : List A) → take n (map f xs) ≡ map f (take n xs)
-first-of f zero xs = refl
-first-of f (suc n) [] = refl
-first-of f (suc n) (x ∷ xs) = ap (λ l. f x ∷ l) (first-of f n xs)
 
 -- ---- what their rows tell
 answers-told : (os : List Outcome) → map answerIn (map rowFor os) ≡ map (λ (o : Outcome). o .answer) os
@@ -61,15 +51,11 @@ no-calls : (start : List ℕ) → BooksRead start [] []
 unfolding summed awardsFrom takenOver lastAt
 no-calls start = record { ledger = omega arith; input = omega arith; blocking = omega arith; damped = omega arith; passed = omega arith }
 
-first-none : {A : Type 0} (n : ℕ) → take {A = A} n [] ≡ []
-first-none zero = refl
-first-none (suc n) = refl
-
 -- THE BOOKS of every journal, after each of its lines: after the first n of them, whatever n
 pub books : (j : List ℕ) (n : ℕ) → BooksRead (startOf j) (take n (callsOf j)) (take n (rowsIn (transcriptOf j)))
 unfolding outcomes
 books j n =
-    rw (rows-read j, first-of rowFor n (outcomesOf j), first-outcomes n (fresh (startOf j)) (callsOf j))
+    rw (rows-read j, sym (map-take rowFor n (outcomesOf j)), sym (first-outcomes (fresh (startOf j)) n (callsOf j)))
     (by-same (headerOf j .number) 0
     (λ h. by-rows (startOf j) (take n (callsOf j)) (start-48 j h))
-    (λ h. rw (bad-walk j h, first-none {A = Call} n) (no-calls (startOf j))))
+    (λ h. rw (bad-walk j h, take-nil {A = Call} n) (no-calls (startOf j))))

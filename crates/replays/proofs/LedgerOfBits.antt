@@ -1,9 +1,9 @@
 -- The ledger of bits of a journal with a record of each kind but a write, worked out by the checker: what each record awards, by the calls alone; and the
 -- sums over the lines of its transcript, which `six-told` has. Of 300 bits awarded 1,798 units came into the input pool, where 262 are left; 16 bytes went
 -- onto the key and 8 into the blocking pool, 24 times 64. Those 8 brought 384 units, of which 192 are left, and 3 bytes were delivered.
-use mathlib.Core.Path.{_≡_, refl}
+use mathlib.Core.Path.{_≡_, refl, ap}
 use mathlib.Core.List.{List, [], _∷_, _++_, map, sum}
-use Prim.Native.Nat.{ℕ, _+_, _*_}
+use Prim.Native.Nat.{ℕ, _+_}
 use Rattle.words.specs.Bytes.{leNumber}
 use Rattle.ledger.specs.Choice.{pick}
 use Rattle.ledger.specs.Clocks.{signed, log2, estimate}
@@ -37,6 +37,10 @@ answers = map answerIn rows
 pub six-awards : awardsFrom [] calls ≡ 0 ∷ 1 ∷ 171 ∷ 0 ∷ 128 ∷ 0 ∷ []
 unfolding awardsFrom award earned keptClocks lastValue interruptClocks spillBy signed log2 estimate callWith deviceNamed devicesIn deviceBytes known carriedBy walkOf behind walk walkFrom headerOf headerWithin refusalWithin startOf readAt front opened carrying fieldsIn widths total recordOf carries leNumber pick
 six-awards = refl
+
+pub six-awarded : awarded calls ≡ 300
+unfolding sum
+six-awarded = ap (sum _+_ 0) six-awards
 
 pub six-sums : (delivered calls answers ∷ addedToInput calls answers ∷ addedToBlocking calls answers ∷ inputIn rows ∷ blockingIn rows ∷ []) ≡ 3 ∷ 1798 ∷ 384 ∷ 262 ∷ 192 ∷ []
 unfolding summed lastAt rowsIn linesIn rowIn numberIn parts inFront callWith deviceNamed devicesIn deviceBytes known carriedBy walkOf behind walk walkFrom headerOf headerWithin refusalWithin startOf readAt front opened carrying fieldsIn widths total recordOf carries leNumber pick
