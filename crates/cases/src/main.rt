@@ -2,6 +2,8 @@
 // 60 units, which the paper wants run by a program, is here too. Calls are told as a line: the answer's number, bytes delivered, input
 // count, blocking count, ChaCha20 blocks, compressions, units added, seeded mark, and the bytes that a reseed took. A credit is told as the
 // new count and the units added.
+#![tactic(auto)]
+
 mod calls;
 mod print;
 mod sums;

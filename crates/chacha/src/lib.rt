@@ -6,6 +6,8 @@
 //
 // The contracts are equations with specs/Chacha.antt, for every state and every room. `quarter` and `block` are exported for the
 // published vectors.
+#![tactic(auto)]
+
 pub mod blocks;
 pub mod rounds;
 

@@ -3,6 +3,8 @@
 //
 // `plans` has a function for each definition of `ledger/specs/Plans.antt`; those named `decide_` are for code above, take any values, and
 // answer 17 where something is out of range. `work` has what a plan costs and answers.
+#![tactic(auto)]
+
 pub mod plans;
 pub mod work;
 

@@ -3,6 +3,7 @@
 // specs/ has the desk, the issuing of a number told draw by draw, with the keeper's own generator read inside it, and runs of a keeper's
 // calls with a desk's. proofs/ has what the customer asks of them: that a number is new, that drill and live never meet, what a refusal
 // leaves, what the work is, and what two runs show alike. The code comes on top of these definitions, in `issuing`.
+#![tactic(auto)]
 
 // How many numbers a desk remembers, how many bytes a number has and how many of them are drawn, and how many all that are remembered have.
 pub const REMEMBERED: u32 = 64;

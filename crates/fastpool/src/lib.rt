@@ -1,6 +1,8 @@
 // The interrupt fast pool in code: four words into which every interrupt's numbers go before anything is spilled.
 //
 // The contract is one equation with the definition `stirred` of `keeper`, for any words and any numbers; sums wrap.
+#![tactic(auto)]
+
 ghost use Rattle.std.specs.Prelude.{◌≡◌, ◌/◌, ◌%◌, ◌^◌, ◌<◌};
 ghost use Rattle.keeper.specs.FastPool.{fast_step, fast_round, stirred};
 

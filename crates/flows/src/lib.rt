@@ -2,6 +2,8 @@
 // blocking pool, and from the blocking pool into the caller's room. How many go is the plan's to say; nothing is decided here.
 //
 // Pools, generator and room are lent and changed in place; what is passed on stands for a moment in a room of 32 or 128 bytes.
+#![tactic(auto)]
+
 ghost use Rattle.std.specs.Prelude.{◌≡◌, ◌++◌, ◌≤◌, length, drop};
 ghost use Rattle.words.specs.Bytes.{words_bytes};
 ghost use Rattle.ledger.specs.Sizes.{input_words, generator_words};

@@ -3,6 +3,8 @@
 //
 // `key` has the xoring, `reading` the counter, the blocks and the key change. The contracts are equations with the definitions of
 // `keeper/specs/Generator.antt`, for every byte of the room and every word of the generator.
+#![tactic(auto)]
+
 pub mod key;
 pub mod reading;
 

@@ -9,6 +9,8 @@
 // byte of a room then is, and for every refusal that nothing moved. That the updated index is the one worked out afresh is proved in
 // proofs/Updating.antt and proofs/Longer.antt, that looking up gives what counting gives in proofs/Counting.antt, what the room then holds
 // in proofs/Kept.antt.
+#![tactic(auto)]
+
 mod appending;
 mod filing;
 mod fresh;

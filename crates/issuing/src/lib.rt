@@ -7,6 +7,8 @@
 //
 // The contract of `issue_on` is one equation with `issue` of `desk` over the whole record, the desk and what is handed back, for all inputs. specs/
 // has runs of what the code leaves, and proofs/ the customer's demands of them.
+#![tactic(auto)]
+
 mod compare;
 mod draw;
 pub mod issue;

@@ -8,6 +8,8 @@
 // proofs/CutJournals.antt; that a journal goes on where it ended, in proofs/Appended.antt; that what is written in the layout of specs/ is
 // read back, in proofs/Written.antt, and of a whole journal in proofs/WholeJournals.antt. What writes asks for a room that is long enough, and
 // moves no other byte of it.
+#![tactic(auto)]
+
 pub mod ending;
 mod fields;
 pub mod heading;

@@ -4,6 +4,7 @@
 // decides from public numbers alone and the secrets obey. proofs/Same.antt shows that both are one function of keeper and call, so a
 // contract cites Narrative, and whatever is public is read off the plan. The other files of proofs/ are the customer's demands.
 // The code comes on top of these definitions.
+#![tactic(auto)]
 
 use ledger::sizes::{BLOCKING_WORDS, DEVICES, FAST_WORDS, GENERATOR_WORDS, INPUT_WORDS};
 

@@ -1,5 +1,7 @@
 // The two ciphers as C sees them, one block a call: for the measurements of bench/ and for comparison with other people's
 // implementations. Nothing of the keeper stands on this crate.
+#![tactic(auto)]
+
 ghost use Rattle.std.specs.Prelude.{◌≡◌};
 ghost use Rattle.std.proofs.lemmas.List.Edits.{sets};
 ghost use Rattle.chacha.specs.Chacha.{chacha_block, serialize};

@@ -6,6 +6,7 @@
 // Clocks, Range; then PublicCalls and Plans, by which a call is decided, and Machine, which is the whole keeper as far as it can be
 // seen), and proofs/ with what follows from these alone: crediting, debiting, "in range stays in range", blocking, the marked cases.
 // The code is in `reckon` (counts, clocks, the range test) and `decide` (the plans of the calls).
+#![tactic(auto)]
 
 pub mod numbers;
 pub mod sizes;

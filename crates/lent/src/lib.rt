@@ -5,6 +5,8 @@
 //
 // The contract of each is one equation for all inputs: the record, the answer and the output room, as the call has left them, are
 // what specs/Promise.antt of `steps` says that the call leaves. The walks in proofs/ are printed by fronts/print.
+#![tactic(auto)]
+
 ghost use Rattle.std.specs.Prelude.{◌≡◌, [], length};
 ghost use Rattle.desk.specs.Issuing.{left_with, issue};
 ghost use Rattle.keeper.specs.Calls.{device_event, interrupted, written, seeded_with, generator_read, blocking_read_of};

@@ -10,6 +10,8 @@
 // each byte, `LONGEST_GONE`, `LONGEST_SUMS`.
 //
 // `row` has numbers with a space before each, `named` a line that begins with a name; `looked` and `totals` have the texts.
+#![tactic(auto)]
+
 pub mod looked;
 mod named;
 mod row;

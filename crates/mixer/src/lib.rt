@@ -4,6 +4,8 @@
 // Each contract gives the words, the spot and every byte of the room at exit, by the definitions of `pool` at the shape that the number
 // of words tells (specs/Sizes.antt). What is asked is a pool of 128 or 32 words and a spot inside it, which the range test gives;
 // each function gives it back for the spot that it answers.
+#![tactic(auto)]
+
 pub mod extracting;
 pub mod mixing;
 

@@ -8,6 +8,8 @@
 // of a journal, one behind another, are its transcript; and where standard output took all that it was handed, it was handed all of them,
 // each once and in order. What is left to the eye: that `hand_over` writes what it is handed, and that nothing else in `replaying` writes
 // or counts.
+#![tactic(auto)]
+
 mod arguments;
 mod batches;
 mod message_numbers;

@@ -6,6 +6,8 @@
 //
 // specs/Whole.antt has the whole text as a function of the journal's bytes, the clock and the class fields. proofs/AllLines.antt shows that it is what
 // these pieces give one behind another, and that any two of 65 numbers that are issued for it one after another differ.
+#![tactic(auto)]
+
 pub mod lines;
 mod running;
 

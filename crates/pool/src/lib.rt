@@ -3,3 +3,4 @@
 //
 // specs/Mixing.antt and specs/Extracting.antt have the paper's section on pools; proofs/Extracted.antt has the laws of a pool that
 // theorems about calls need, together. The code is in `mixer`.
+#![tactic(auto)]

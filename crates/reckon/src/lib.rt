@@ -3,6 +3,8 @@
 //
 // Each contract is one equation with the definition of the same name in `ledger`. A `requires` stands only on what proved code alone
 // reaches, after the range test: a count within its size, a timer in range.
+#![tactic(auto)]
+
 pub mod clocks;
 pub mod credits;
 pub mod range;

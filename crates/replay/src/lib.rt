@@ -5,6 +5,8 @@
 //
 // The keeper goes in parts, as in `steps`: the ledger by value, the arrays lent. specs/Whole.antt has the whole transcript as a function of
 // the journal's bytes; proofs/ shows that the lines which turns write one after another are it.
+#![tactic(auto)]
+
 mod running;
 pub mod turns;
 

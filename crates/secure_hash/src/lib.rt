@@ -6,6 +6,8 @@
 //
 // The contracts are equations with specs/Sha1.antt, for every hash value and every block. They do not say how the schedule is
 // kept, so it can change without a caller seeing it.
+#![tactic(auto)]
+
 pub mod blocks;
 mod ring;
 mod steps;

@@ -8,6 +8,8 @@
 // What is made of several reads, above, takes `others_in_range` and `carried_out` from here: it tests and decides once.
 //
 // `answers` has what a call gives back, `range` the test of what a ledger does not hold; `making` makes a keeper, `feeding` has the calls that bring bytes, `reading` those that take some.
+#![tactic(auto)]
+
 mod answers;
 pub mod feeding;
 pub mod making;

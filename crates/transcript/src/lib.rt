@@ -10,6 +10,8 @@
 // is shorter is left as it was, and the answer is 0. `LONGEST_LINE` is enough for the most bytes that a record delivers.
 //
 // `text` has numbers and bytes as text, for other texts too; `lines` has the two kinds of lines.
+#![tactic(auto)]
+
 pub mod lines;
 pub mod text;
 

@@ -6,6 +6,8 @@
 // Each function is total: none has a `requires`, and each contract is one equation with a definition of specs/. What a
 // further crate needs to know of the definitions (bounds, round trips, a loop that adds word by word) is proved once in
 // proofs/, and cited from there.
+#![tactic(auto)]
+
 pub mod bytes;
 pub mod room;
 pub mod turn;
