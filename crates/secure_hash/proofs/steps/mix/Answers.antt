@@ -1,7 +1,6 @@
 use Rattle.std.proofs.Common.{◌≡◌, ℕ, zero, suc, refl}
 use Rattle.secure_hash.specs.Sha1.{mix, ch, parity, maj}
-use Rattle.secure_hash.proofs.steps.mix.Statement.{statement}
-use Rattle.secure_hash.proofs.steps.mix.Tie as tie
+use Rattle.secure_hash.proofs.steps.mix.Goals as goal
 
 other : (p : ℕ) → (p ≡ 0 → ⊥) → (p ≡ 2 → ⊥) → (x y z : ℕ) → parity x y z ≡ mix p x y z
 unfolding mix
@@ -11,17 +10,14 @@ other (suc (suc zero)) h k x y z = absurd (k refl)
 other (suc (suc (suc zero))) h k x y z = refl
 other (suc (suc (suc (suc p)))) h k x y z = refl
 
-returns : tie.Need-returns
+pub returns-then-p-eq0 : goal.returns-then-p-eq0
 unfolding mix ch
-returns c = rw c.if1.true
+returns-then-p-eq0 c = rw c.if-p-eq0.true
 
-returns-2 : tie.Need-returns-2
+pub returns-then-p-eq2 : goal.returns-then-p-eq2
 unfolding mix maj
-returns-2 c = rw c.if2.true
+returns-then-p-eq2 c = rw c.if-p-eq2.true
 
-returns-3 : tie.Need-returns-3
+pub returns-else-p-eq2 : goal.returns-else-p-eq2
 unfolding parity
-returns-3 c = other c.before.before.args.p c.before.if1.false c.if2.false _ _ _
-
-pub mix-spec : {M : Type 1} → statement M
-mix-spec = tie.close (tie.spec returns returns-2 returns-3)
+returns-else-p-eq2 c = other c.args.p c.if-p-eq0.false c.if-p-eq2.false _ _ _

@@ -1,0 +1,13 @@
+use Rattle.std.proofs.Common.{◌≡◌, ◌-◌, ◌<◌, ◌≤◌, length, take, refl, add-one, arith, rules}
+use lib.Seq.{sets, take-length}
+use Rattle.words.specs.Words.{add, add_words}
+use Rattle.words.specs.Bytes.{words_bytes}
+use Rattle.words.proofs.Rooms.{sets_word}
+use Rattle.words.proofs.Sums.{length_zip_with, get_or_zip_with}
+use Rattle.chacha.proofs.blocks.lay_sums.Given as goal
+
+abbrev pub invariant-loop-k : goal.invariant-loop-k
+invariant-loop-k l = (l.k ≤ 16) × (length l.out ≡ length l.initial.out) × (l.out ≡ sets l.initial.out 0 (words_bytes (take l.k (add_words l.t l.s))))
+
+abbrev pub decreases-loop-k : goal.decreases-loop-k
+decreases-loop-k l = 16 - l.k

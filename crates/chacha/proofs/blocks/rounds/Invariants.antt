@@ -1,0 +1,9 @@
+use Rattle.std.proofs.Common.{◌≡◌, ◌-◌, ◌≤◌, refl, ap, ◌∙◌, add-one, arith, rules}
+use Rattle.chacha.specs.Chacha.{inner_block, rounds}
+use Rattle.chacha.proofs.blocks.rounds.Given as goal
+
+abbrev pub invariant-loop-n : goal.invariant-loop-n
+invariant-loop-n l = (l.n ≤ 10) × (l.t ≡ rounds l.n l.initial.t)
+
+abbrev pub decreases-loop-n : goal.decreases-loop-n
+decreases-loop-n l = 10 - l.n
