@@ -13,7 +13,7 @@ pub mod sizes;
 
 // Where a pool's next byte goes: its position and its rotation.
 #[repr(C)]
-#[derive(Drop)]
+#[derive(Clone, Copy)]
 pub struct Spot {
     pub at: u32,
     pub turn: u32,
@@ -21,7 +21,7 @@ pub struct Spot {
 
 // What is public of a pool: its count, in eighths of a bit, and where its next byte goes.
 #[repr(C)]
-#[derive(Drop)]
+#[derive(Clone, Copy)]
 pub struct Gauge {
     pub count: u32,
     pub spot: Spot,
@@ -29,7 +29,7 @@ pub struct Gauge {
 
 // Interrupts since the last spill, and the clock of that spill.
 #[repr(C)]
-#[derive(Drop)]
+#[derive(Clone, Copy)]
 pub struct Spill {
     pub tally: u32,
     pub clock: u32,
@@ -38,7 +38,7 @@ pub struct Spill {
 // A mark of 1: seeded for good. Any other number is read as unseeded: a mark that is damaged must not open the generator. And the clock
 // of the last seeding.
 #[repr(C)]
-#[derive(Drop)]
+#[derive(Clone, Copy)]
 pub struct Seeding {
     pub mark: u32,
     pub clock: u32,
@@ -46,7 +46,7 @@ pub struct Seeding {
 
 // The public half of the record, but for the timers: the two pools', device 0's last value, the fast pool's and the generator's.
 #[repr(C)]
-#[derive(Drop)]
+#[derive(Clone, Copy)]
 pub struct Ledger {
     pub input: Gauge,
     pub blocking: Gauge,
@@ -57,7 +57,7 @@ pub struct Ledger {
 
 // A device's timer: its last clock, the first and second difference of its last event, and how many of its events were kept so far, up to
 // three.
-#[derive(Drop)]
+#[derive(Clone, Copy)]
 pub struct Timer {
     pub clock: u32,
     pub d1: i64,
@@ -66,14 +66,14 @@ pub struct Timer {
 }
 
 // What crediting gives: the count afterwards, and the units that were added to it.
-#[derive(Drop)]
+#[derive(Clone, Copy)]
 pub struct Credited {
     pub count: u32,
     pub added: u32,
 }
 
 // What a call will do.
-#[derive(Drop)]
+#[derive(Clone, Copy)]
 pub struct Plan {
     // the number given back
     pub number: u32,
@@ -98,7 +98,7 @@ pub struct Plan {
 // The number given back, the bytes delivered, the work of the call: ChaCha20 blocks and SHA-1 compressions; and what its credit was worth:
 // the units that were added to a count, before any debit.
 #[repr(C)]
-#[derive(Drop)]
+#[derive(Clone, Copy)]
 pub struct Answer {
     pub number: u32,
     pub delivered: u32,
