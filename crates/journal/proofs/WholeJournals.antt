@@ -1,19 +1,19 @@
 -- A whole journal that is written, header and records, is read back: its header is good and of that version, it has these start bytes and these
 -- records, and it ends with 0.
-use mathlib.Core.Path.{◌≡◌, refl, sym, ap, ◌∙◌}
+use mathlib.Core.Path.{◌≡◌, refl, ap, ◌∙◌}
 use mathlib.Core.Bool.{true}
-use mathlib.Core.List.{List, [], ◌∷◌, ◌++◌, append_assoc}
-use Prim.Native.Nat.{ℕ, ◌+◌, ◌^◌, ◌≤◌, ◌<◌}
+use mathlib.Core.List.{List, ◌++◌, append_assoc}
+use Prim.Native.Nat.{ℕ, ◌^◌, ◌≤◌, ◌<◌}
 use native.Mathlib.Omega.{arith}
 use borrow.Author.Tests.{eqb-true, ne_eqb}
 use lib.ListN.{length, take, length-append}
 use lib.Seq.{take_at, drop_at}
 use Rattle.ledger.specs.Sizes.{start_bytes}
-use Rattle.words.specs.Bytes.{le_bytes, le_number}
+use Rattle.words.specs.Bytes.{le_bytes}
 use Rattle.words.proofs.Numbers.{length_le_bytes, number_bytes_lem}
 use Rattle.journal.specs.Header.{largest, records_begin, heading, known, header_of, start_of}
 use Rattle.journal.specs.Reading.{num}
-use Rattle.journal.specs.Walking.{Walk, walk, walk_of, ending_of}
+use Rattle.journal.specs.Walking.{walk, walk_of, ending_of}
 use Rattle.journal.specs.Writing.{header_for, Said, said_in, written, journal_of, AllWritable}
 use Rattle.journal.specs.declared.heading.Heading.{Heading}
 use Rattle.journal.proofs.Sides.{by_same}

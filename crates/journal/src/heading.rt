@@ -14,7 +14,7 @@ pub const LARGEST: usize = 61440;
 pub const RECORDS_BEGIN: usize = 5 + START_BYTES;
 
 // What a header says. Where its number is not 0, the version and the place are.
-#[derive(Drop)]
+#[derive(Clone, Copy)]
 pub struct Heading {
     pub number: u32,
     pub version: u32,

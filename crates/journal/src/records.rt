@@ -10,7 +10,7 @@ use ledger::numbers::{CUT_SHORT, TOO_LONG, UNKNOWN_KIND};
 use ledger::sizes::LONGEST;
 
 // A record: its fields. The `len` bytes of a write or a seed are the last before the position after it; `payload` hands them over.
-#[derive(Drop)]
+#[derive(Clone, Copy)]
 pub enum Record {
     Event {
         now: u32,
@@ -44,7 +44,7 @@ pub enum Record {
 }
 
 // What stands at a position: a record and the position after it; the number that the journal ends with there; or no more bytes.
-#[derive(Drop)]
+#[derive(Clone, Copy)]
 pub enum Found {
     One(Record, usize),
     Stop(u32),
