@@ -12,7 +12,7 @@ use ledger::sizes::INPUT_WORDS;
 use words::rotate_left;
 
 // The taps of a pool, but for the last, which is 1 in both.
-#[derive(Drop)]
+#[derive(Clone, Copy)]
 struct Taps {
     a: usize,
     b: usize,

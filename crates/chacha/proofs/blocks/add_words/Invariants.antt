@@ -1,6 +1,6 @@
-use Rattle.std.proofs.Common.{◌≡◌, ◌-◌, ◌≤◌, length, refl, add-one, arith, rules}
+use Rattle.std.proofs.Common.{◌≡◌, ◌-◌, ◌≤◌}
 use Rattle.words.specs.Words.{add}
-use Rattle.words.proofs.Sums.{part, part_suc, part_all}
+use Rattle.words.proofs.Sums.{part}
 use Rattle.chacha.proofs.blocks.add_words.Given as goal
 
 abbrev pub invariant-loop-i : goal.invariant-loop-i

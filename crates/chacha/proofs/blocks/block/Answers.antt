@@ -1,5 +1,4 @@
 use Rattle.chacha.specs.Chacha.{chacha_block}
-use Rattle.std.proofs.Common.{rules}
 use Rattle.chacha.proofs.blocks.block.Goals as goal
 
 pub returns : goal.returns

@@ -1,5 +1,5 @@
-use Rattle.std.proofs.Common.{◌≡◌, ◌-◌, ◌<◌, ◌≤◌, length, take, refl, add-one, arith, rules}
-use lib.Seq.{sets, take-length}
+use Rattle.std.proofs.Common.{◌≡◌, ◌<◌, length, refl, add-one, arith, rules}
+use lib.Seq.{take-length}
 use Rattle.words.specs.Words.{add, add_words}
 use Rattle.words.specs.Bytes.{words_bytes}
 use Rattle.words.proofs.Rooms.{sets_word}

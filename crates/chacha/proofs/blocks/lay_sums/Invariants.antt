@@ -1,9 +1,7 @@
-use Rattle.std.proofs.Common.{◌≡◌, ◌-◌, ◌<◌, ◌≤◌, length, take, refl, add-one, arith, rules}
-use lib.Seq.{sets, take-length}
-use Rattle.words.specs.Words.{add, add_words}
+use Rattle.std.proofs.Common.{◌≡◌, ◌-◌, ◌≤◌, length, take}
+use lib.Seq.{sets}
+use Rattle.words.specs.Words.{add_words}
 use Rattle.words.specs.Bytes.{words_bytes}
-use Rattle.words.proofs.Rooms.{sets_word}
-use Rattle.words.proofs.Sums.{length_zip_with, get_or_zip_with}
 use Rattle.chacha.proofs.blocks.lay_sums.Given as goal
 
 abbrev pub invariant-loop-k : goal.invariant-loop-k

@@ -1,4 +1,4 @@
-use Rattle.std.proofs.Common.{◌≡◌, ◌-◌, ◌≤◌, refl, ap, ◌∙◌, add-one, arith, rules}
+use Rattle.std.proofs.Common.{◌≡◌, refl, ap, ◌∙◌, add-one, arith, rules}
 use Rattle.chacha.specs.Chacha.{inner_block, rounds}
 use Rattle.chacha.proofs.blocks.rounds.Goals as goal
 

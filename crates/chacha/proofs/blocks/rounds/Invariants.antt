@@ -1,5 +1,5 @@
-use Rattle.std.proofs.Common.{◌≡◌, ◌-◌, ◌≤◌, refl, ap, ◌∙◌, add-one, arith, rules}
-use Rattle.chacha.specs.Chacha.{inner_block, rounds}
+use Rattle.std.proofs.Common.{◌≡◌, ◌-◌, ◌≤◌}
+use Rattle.chacha.specs.Chacha.{rounds}
 use Rattle.chacha.proofs.blocks.rounds.Given as goal
 
 abbrev pub invariant-loop-n : goal.invariant-loop-n

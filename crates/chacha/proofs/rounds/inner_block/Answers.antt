@@ -1,4 +1,4 @@
-use Rattle.std.proofs.Common.{◌≡◌, length, arith, rules}
+use Rattle.std.proofs.Common.{◌≡◌, length, arith}
 use Rattle.chacha.proofs.Columns.{double_round}
 use Rattle.chacha.proofs.rounds.inner_block.Goals as goal
 

@@ -1,5 +1,4 @@
 use Rattle.chacha.specs.Chacha.{quarter}
-use Rattle.std.proofs.Common.{rules}
 use Rattle.chacha.proofs.rounds.quarter.Goals as goal
 
 pub returns : goal.returns

@@ -1,4 +1,4 @@
-use Rattle.std.proofs.Common.{◌≡◌, ◌-◌, ◌≤◌, length, refl, add-one, arith, rules}
+use Rattle.std.proofs.Common.{◌≡◌, length, refl, add-one, arith, rules}
 use Rattle.words.specs.Words.{add}
 use Rattle.words.proofs.Sums.{part, part_suc, part_all}
 use Rattle.secure_hash.proofs.blocks.add_words.Goals as goal

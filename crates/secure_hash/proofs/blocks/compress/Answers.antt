@@ -1,8 +1,8 @@
-use Rattle.std.proofs.Common.{◌≡◌, ℕ, ◌-◌, ◌%◌, ◌≤◌, List, length, refl, ap, ◌∙◌, arith, rules}
+use Rattle.std.proofs.Common.{◌≡◌, ℕ, ◌-◌, List, refl, ap, ◌∙◌, arith, rules}
 use mathlib.Core.List.{zip_with}
 use Rattle.words.specs.Words.{add}
-use Rattle.secure_hash.specs.Sha1.{run, schedule, compressed}
-use Rattle.secure_hash.proofs.Held.{Holds, holds_block, holds_turns}
+use Rattle.secure_hash.specs.Sha1.{run, compressed}
+use Rattle.secure_hash.proofs.Held.{holds_block, holds_turns}
 use Rattle.secure_hash.proofs.Fours.{more_steps, last_steps}
 use Rattle.secure_hash.proofs.blocks.compress.Goals as goal
 

@@ -1,9 +1,6 @@
-use Rattle.std.proofs.Common.{◌≡◌, ℕ, ◌-◌, ◌%◌, ◌≤◌, List, length, refl, ap, ◌∙◌, arith, rules}
-use mathlib.Core.List.{zip_with}
-use Rattle.words.specs.Words.{add}
-use Rattle.secure_hash.specs.Sha1.{run, schedule, compressed}
-use Rattle.secure_hash.proofs.Held.{Holds, holds_block, holds_turns}
-use Rattle.secure_hash.proofs.Fours.{more_steps, last_steps}
+use Rattle.std.proofs.Common.{◌≡◌, ◌-◌, ◌%◌, ◌≤◌, length}
+use Rattle.secure_hash.specs.Sha1.{run, schedule}
+use Rattle.secure_hash.proofs.Held.{Holds}
 use Rattle.secure_hash.proofs.blocks.compress.Given as goal
 
 abbrev pub invariant-loop-t : goal.invariant-loop-t

@@ -1,4 +1,4 @@
-use Rattle.std.proofs.Common.{◌+◌, ◌∙◌, arith, rules}
+use Rattle.std.proofs.Common.{◌+◌, ◌∙◌, arith}
 use Rattle.secure_hash.proofs.Held.{turned-at, turns_four}
 use Rattle.secure_hash.proofs.ring.next_four.Goals as goal
 

@@ -1,4 +1,4 @@
-use Rattle.std.proofs.Common.{ℕ, set, ap, rules}
+use Rattle.std.proofs.Common.{ℕ, set, ap}
 use Rattle.secure_hash.specs.Ring.{scheduled}
 use Rattle.secure_hash.proofs.ring.turn.Goals as goal
 

@@ -1,4 +1,4 @@
-use Rattle.std.proofs.Common.{◌%◌, arith, rules}
+use Rattle.std.proofs.Common.{◌%◌, arith}
 use Rattle.secure_hash.proofs.Fours.{four_steps}
 use Rattle.secure_hash.proofs.steps.of_twenty.Goals as goal
 

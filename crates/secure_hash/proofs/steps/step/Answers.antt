@@ -1,5 +1,4 @@
 use Rattle.secure_hash.specs.Sha1.{step, constant}
-use Rattle.std.proofs.Common.{rules}
 use Rattle.secure_hash.proofs.steps.step.Goals as goal
 
 pub returns : goal.returns
