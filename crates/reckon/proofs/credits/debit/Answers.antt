@@ -1,9 +1,8 @@
 -- `reckon::credits::debit` meets its contract.
-use Rattle.std.proofs.Common.{◌≡◌, ℕ, ◌/◌, ◌<◌, ◌≤◌, min, arith, rules, le-ltb, lt-ltb}
+use Rattle.std.proofs.Common.{◌≡◌, ℕ, ◌/◌, ◌<◌, ◌≤◌, min, le-ltb, lt-ltb}
 use Rattle.ledger.specs.Choice.{pick}
 use Rattle.ledger.specs.Credits.{taken}
-use Rattle.reckon.proofs.credits.debit.Statement.{statement}
-use Rattle.reckon.proofs.credits.debit.Tie as tie
+use Rattle.reckon.proofs.credits.debit.Goals as goal
 
 -- what is wanted and held, where it is below the least: none is taken
 none : (k m count : ℕ) {t : ℕ} → t ≡ min k (count / 64) → t < m → 0 ≡ taken k m count
@@ -15,11 +14,8 @@ all : (k m count : ℕ) {t : ℕ} → t ≡ min k (count / 64) → m ≤ t → t
 unfolding taken pick
 all k m count e h = rw (← e, le-ltb _ _ h)
 
-returns : tie.Need-returns
-returns c = (none _ _ _ (search) c.if1.true, (omega arith, omega arith))
+pub returns-then-most-least-clause-value : goal.returns-then-most-least-clause-value
+returns-then-most-least-clause-value c = none _ _ _ c.lesser-most.ensures c.if-most-least.true
 
-returns-2 : tie.Need-returns-2
-returns-2 c = (all _ _ _ (search) c.if1.false, (omega arith, omega arith))
-
-pub debit-spec : {M : Type 1} → statement M
-debit-spec = tie.close (tie.spec (λ c κs. search rules) returns returns-2)
+pub returns-else-most-least-clause-value : goal.returns-else-most-least-clause-value
+returns-else-most-least-clause-value c = all _ _ _ c.lesser-most.ensures c.if-most-least.false
