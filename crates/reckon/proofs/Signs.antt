@@ -42,7 +42,7 @@ sub_fits x y h k = record { sfits = omega (arith, lies (x -ℤ y), near (2 ^ 62)
 
 -- a signed local holds bits: what it is read back as
 pub back : (z : ℤ) → mag z < 2 ^ 63 → to_z w64 (of_z w64 z) ≡ z
-back z h = to_z-of_z (record { sfits = h })
+back z h = to_z-of_z {w = w64} (record { sfits = h })
 
 -- 32 bits, read as signed in 64
 pub up : (n : ℕ) → n < 2 ^ 32 → to_z w64 n ≡ pos n

@@ -1,6 +1,6 @@
 -- The range test as the code makes it: numbers that are below a power of two where a difference is in range, gathered by or in one
 -- pass over the timers.
-use Rattle.std.proofs.Common.{◌≡◌, ℕ, zero, suc, ◌+◌, ◌-◌, ◌%◌, ◌^◌, ◌<◌, ◌≤◌, max, Bool, true, false, ◌&&◌, T, eqb, ltb, leb, List, [], ◌∷◌, length, get_or, take, drop, ℤ, pos, negsuc, nat_abs, sym, refl, ap, ◌∙◌, add-one, arith, length-drop, drop_of_length-le, take_all, drop-cons, ltb-false, ltb-true, le-ltb, lt-ltb, le-leb, leb-false, leb-true}
+use Rattle.std.proofs.Common.{◌≡◌, ℕ, zero, suc, ◌+◌, ◌-◌, ◌%◌, ◌^◌, ◌<◌, ◌≤◌, max, Bool, true, false, ◌&&◌, T, eqb, ltb, leb, List, [], ◌∷◌, length, get_or, take, drop, ℤ, pos, negsuc, nat_abs, refl, ap, ◌∙◌, add-one, arith, length-drop, drop_of_length-le, take_all, drop-cons, ltb-false, ltb-true, le-ltb, lt-ltb, le-leb, leb-false, leb-true}
 use mathlib.Core.Bool.{and-true, and-false, and_assoc, and_comm}
 use borrow.Author.Tests.{lt-leb}
 use lib.Bits.{bit_or, or_lt, or_add_and, and_le_l, and_le_r}
