@@ -125,10 +125,13 @@ near_run v v' count count' (a ∷ more) [] rs' e h h' l l' = absurd (omega arith
 near_run v v' count count' (a ∷ more) (r ∷ rs) [] e h h' l l' = absurd (omega arith)
 near_run v v' count count' (public_call c ∷ more) (r ∷ rs) (r' ∷ rs') e h h' l l' =
     let s = ap (λ (u : View). step_view u c) e in
-    called (λ i. (s i).view) (λ i. (s i).answer) (near_run _ _ count count' more rs rs' (λ i. (s i).view) h h' (omega arith) (omega arith))
+    called (λ i. (s i).view) (λ i. (s i).answer) (near_run (step_view v c).view (step_view v' c).view count count' more rs rs' (λ i. (s i).view) h h' (omega arith) (omega arith))
 near_run v v' count count' (public_ask now class ∷ more) (r ∷ rs) (r' ∷ rs') e h h' l l' =
-    let n : Near (issue_shows v count class now r) (issue_shows v' count' class now r') = rw e (near_issue v' count count' class now r r' h h') in
-    asked n.view n.answers (near_run _ _ _ _ more rs rs' n.view (count_issue v count class now r h) (count_issue v' count' class now r' h') (omega arith) (omega arith))
+    let x = issue_shows v count class now r in
+    let x' = issue_shows v' count' class now r' in
+    let n : Near x x' = rw e (near_issue v' count count' class now r r' h h') in
+    asked n.view n.answers
+    (near_run x.view x'.view x.count x'.count more rs rs' n.view (count_issue v count class now r h) (count_issue v' count' class now r' h') (omega arith) (omega arith))
 
 -- WITHOUT THE CONDITION: whatever the desks remember and whichever draws repeat, the same is public of the record after each call, every call of the
 -- keeper answers the same, and what a desk call answers differs by three blocks at the most, and by a number or none
