@@ -24,9 +24,8 @@ use Rattle.journal.proofs.Again.{walk_wider}
 use Rattle.journal.proofs.WholeJournals.{Holds, journal_read}
 use Rattle.convert.specs.Converting.{outcome_of, refusal_of, converted_of, room_after}
 use Rattle.convert.specs.Passes.{events_in}
-use Rattle.convert.specs.declared.converting.Converted.{Converted}
 use Rattle.convert.proofs.Longer.{one_byte_longer}
-use Rattle.convert.proofs.Refusing.{Taken, taken, not_version_1}
+use Rattle.convert.proofs.Refusing.{taken, not_version_1}
 
 known_2 : known 2 ≡ true
 unfolding known
