@@ -11,7 +11,6 @@ use Rattle.journal.specs.Header as header
 use Rattle.journal.specs.Walking as walking
 use Rattle.journal.specs.Writing as writing
 use Rattle.convert.specs.Converting as converting
-use Rattle.convert.specs.declared.converting.Converted.{Converted}
 
 -- a header of a version, and records one after another
 abbrev headed : ℕ → List ℕ → List ℕ

@@ -2,5 +2,5 @@ pub mod Longer
 pub mod Passing
 pub mod Refusing
 pub mod Laid
-pub mod Converted
+pub mod ConvertedJournals
 pub mod Cases

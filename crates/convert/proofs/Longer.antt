@@ -1,16 +1,16 @@
 -- How long the outcome is: as long as the journal, and one byte more for each event.
 use mathlib.Core.Path.{◌≡◌, refl, sym, ap, ◌∙◌}
-use mathlib.Core.List.{List, [], ◌∷◌, ◌++◌}
+use mathlib.Core.List.{List, ◌++◌}
 use Prim.Native.Nat.{ℕ, suc, ◌+◌, ◌-◌, ◌≤◌}
 use native.Mathlib.Omega.{arith}
 use lib.ListN.{length, drop, get_or, length-append, length-drop}
 use lib.Seq.{length-take-le}
 use Rattle.ledger.specs.Choice.{pick}
-use Rattle.journal.specs.Layout.{device_bytes, widths, sum, kind_of, fields_of, carries}
-use Rattle.journal.specs.Reading.{fields_in, read_at}
-use Rattle.journal.specs.Header.{records_begin, header_of, version_of, start_of}
-use Rattle.journal.specs.Walking.{Entry, Walk, walk, walk_of, ending_of}
-use Rattle.journal.specs.Writing.{head_of, bytes_of, carried_by, header_for, said_at, said_in, written, journal_of}
+use Rattle.journal.specs.Layout.{device_bytes, widths, sum, kind_of, carries}
+use Rattle.journal.specs.Reading.{read_at}
+use Rattle.journal.specs.Header.{records_begin, version_of, start_of}
+use Rattle.journal.specs.Walking.{Walk, walk, walk_of, ending_of}
+use Rattle.journal.specs.Writing.{bytes_of, carried_by, header_for, said_at, said_in, written, journal_of}
 use Rattle.journal.specs.declared.records.Record.{Record}
 use Rattle.journal.specs.declared.records.Record.TheVariants.{Event, Interrupt, Write, Seed, Read, BlockingRead}
 use Rattle.journal.specs.declared.records.Found.TheVariants.{One}

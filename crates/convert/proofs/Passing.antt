@@ -1,11 +1,11 @@
 -- The pass over the records: what was found so far, with what is still ahead, is what the whole walk has.
-use mathlib.Core.Path.{◌≡◌, refl, sym, ap, ◌∙◌}
+use mathlib.Core.Path.{◌≡◌, refl, ◌∙◌}
 use mathlib.Core.Bool.{Bool, true, false, ◌||◌}
 use mathlib.Core.List.{List}
-use Prim.Native.Nat.{ℕ, ◌+◌, ◌≤◌, ◌<◌}
+use Prim.Native.Nat.{ℕ, ◌+◌, ◌≤◌}
 use native.Mathlib.Omega.{arith}
 use Rattle.journal.specs.Reading.{read_at}
-use Rattle.journal.specs.Walking.{Walk, halt, walk}
+use Rattle.journal.specs.Walking.{halt, walk}
 use Rattle.journal.specs.declared.records.Record.{Record}
 use Rattle.journal.specs.declared.records.Found.TheVariants.{One}
 use Rattle.journal.proofs.Onward.{read_ahead}
@@ -13,7 +13,6 @@ use Rattle.journal.proofs.Walks.{walk_one}
 use Rattle.convert.specs.Converting.{strange, beyond}
 use Rattle.convert.specs.Passes.{one_event, events_in, judged}
 use Rattle.convert.proofs.Longer.{one_at_most}
-use Rattle.convert.specs.declared.judging.Judged.{Judged}
 
 or_assoc : (a b c : Bool) → ((a || b) || c) ≡ (a || (b || c))
 or_assoc true b c = refl

@@ -17,7 +17,6 @@ use Rattle.journal.proofs.GoodHeader.{header_good, heading_good}
 use Rattle.journal.proofs.Walks.{refused, good_walk}
 use Rattle.convert.specs.Converting.{outcome_of, beyond, refusal_of, converted_of, room_after}
 use Rattle.convert.specs.Passes.{events_in, judged}
-use Rattle.convert.specs.declared.converting.Converted.{Converted}
 use Rattle.convert.specs.declared.judging.Judged.{Judged}
 use Rattle.convert.proofs.Longer.{events_few, one_byte_longer}
 

@@ -11,7 +11,7 @@ use ledger::sizes::START_BYTES;
 
 // What came of converting: 0 and how many bytes were written; or the number that refused it, and none.
 #[repr(C)]
-#[derive(Drop)]
+#[derive(Clone, Copy)]
 pub struct Converted {
     pub number: u32,
     pub len: usize,

@@ -7,7 +7,7 @@ ghost use Rattle.convert.specs.Passes.{one_event, judged};
 use journal::{Found, Record, devices_in, read};
 
 // The number that the records end with, whether an event among them is of a device that version 1 has not, and how many events there are.
-#[derive(Drop)]
+#[derive(Clone, Copy)]
 pub struct Judged {
     pub number: u32,
     pub strange: bool,

@@ -5,7 +5,7 @@
 //
 // The call takes whatever it is given. Its contract is two equations with specs/Converting.antt: what is answered, and what each byte of the
 // room then is, refusals included. That the outcome is a good journal of version 2, with the same start bytes and the same records, one byte
-// longer for each event, is proved in proofs/Converted.antt.
+// longer for each event, is proved in proofs/ConvertedJournals.antt.
 #![tactic(auto)]
 
 mod converting;

@@ -9,7 +9,7 @@ use lib.Dec.{eqb}
 use lib.ListN.{length, get_or, drop, drop_of_length-le}
 use lib.Seq.{drop-cons}
 use Rattle.ledger.specs.Choice.{pick}
-use Rattle.ledger.proofs.Picks.{pick_by, and_left, and_right, both}
+use Rattle.ledger.proofs.Picks.{and_left, and_right, both}
 use Rattle.index.specs.Summary.{index}
 use Rattle.index.specs.Calls.{same, same_index}
 use Rattle.index.specs.declared.summary.Index.{Index}

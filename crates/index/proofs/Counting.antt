@@ -1,14 +1,13 @@
 -- LOOKING UP GIVES THE SAME as counting: for every journal and every number; and 18 exactly past the last record.
-use mathlib.Core.Path.{◌≡◌, refl, sym, ap, ap₂, ◌∙◌}
+use mathlib.Core.Path.{◌≡◌, refl, sym, ap, ◌∙◌}
 use mathlib.Core.List.{List, [], ◌∷◌, map}
-use Prim.Native.Nat.{ℕ, zero, suc, ◌+◌, ◌-◌, ◌*◌, ◌/◌, ◌%◌, ◌≤◌, ◌<◌}
+use Prim.Native.Nat.{ℕ, zero, suc, ◌+◌, ◌*◌, ◌/◌, ◌%◌, ◌≤◌, ◌<◌}
 use native.Mathlib.Omega.{arith}
 use borrow.Author.Tests.{lt-ltb, le-ltb}
-use lib.Dec.{ltb}
 use lib.ListN.{length, get_or}
 use Rattle.ledger.specs.Choice.{pick}
-use Rattle.ledger.specs.Numbers.{done, no_such_record}
-use Rattle.journal.specs.Header.{largest, records_begin, header_of, version_of}
+use Rattle.ledger.specs.Numbers.{done}
+use Rattle.journal.specs.Header.{records_begin, header_of, version_of}
 use Rattle.journal.specs.Reading.{read_at}
 use Rattle.journal.specs.Walking.{Entry, Walk, entry, walk, walk_of}
 use Rattle.journal.specs.declared.records.Record.{Record}
@@ -18,12 +17,12 @@ use Rattle.journal.proofs.Sides.{by_less, by_same}
 use Rattle.journal.proofs.GoodHeader.{header_good}
 use Rattle.journal.proofs.Walks.{along_walk, walk_one, walk-stop, walk_end, good_walk, bad_walk}
 use Rattle.journal.proofs.Onward.{read_ahead}
-use Rattle.index.specs.Summary.{every, most_places, places_of, summary_of, index_of, records_in}
+use Rattle.index.specs.Summary.{every, most_places, places_of, summary_of, index_of}
 use Rattle.index.specs.Looking.{Sought, there, nowhere, counted, passed, sought, look_up}
 use Rattle.index.proofs.Records.{seven}
 use Rattle.index.proofs.Tables.{get_or-table}
 use Rattle.index.proofs.Updating.{all_records}
-use Rattle.index.proofs.Passing.{passed_one, passed-stop, passed_end, passed-add}
+use Rattle.index.proofs.Passing.{passed_one, passed-add}
 
 -- ---- counting: within the list a record is there, past it there is none
 pub past_the_last : (es : List Entry) (n : ℕ) → length es ≤ n → counted es n ≡ nowhere

@@ -1,7 +1,7 @@
 -- Going over records and adding each to an index: what is left gives the whole.
-use mathlib.Core.Path.{◌≡◌, refl, sym, ap, ◌∙◌}
-use mathlib.Core.List.{List, [], ◌∷◌, map}
-use Prim.Native.Nat.{ℕ, suc, ◌+◌, ◌-◌, ◌*◌, ◌/◌, ◌%◌, ◌^◌, ◌≤◌, ◌<◌}
+use mathlib.Core.Path.{◌≡◌, refl}
+use mathlib.Core.List.{List, map}
+use Prim.Native.Nat.{ℕ, suc, ◌+◌, ◌-◌, ◌/◌, ◌%◌, ◌^◌, ◌≤◌, ◌<◌}
 use native.Mathlib.Omega.{arith}
 use lib.Dec.{eqb}
 use lib.ListN.{length, get_or, set}
@@ -10,7 +10,7 @@ use Rattle.ledger.specs.Choice.{pick}
 use Rattle.journal.specs.Header.{largest}
 use Rattle.journal.specs.Layout.{kind_of}
 use Rattle.journal.specs.Reading.{read_at}
-use Rattle.journal.specs.Walking.{Walk, halt, walk}
+use Rattle.journal.specs.Walking.{halt, walk}
 use Rattle.journal.specs.Writing.{further}
 use Rattle.journal.specs.declared.records.Record.{Record}
 use Rattle.journal.specs.declared.records.Found.TheVariants.{One}

@@ -1,9 +1,9 @@
 -- A journal that is written on, with its index.
-use mathlib.Core.Path.{◌≡◌, refl, sym, ap, ap₂, ◌∙◌}
-use mathlib.Core.List.{List, [], ◌∷◌, ◌++◌, map}
+use mathlib.Core.Path.{◌≡◌, refl, sym, ap, ◌∙◌}
+use mathlib.Core.List.{List, ◌++◌, map}
 use Prim.Native.Nat.{ℕ, ◌+◌, ◌-◌, ◌≤◌, ◌<◌}
 use native.Mathlib.Omega.{arith}
-use borrow.Author.Tests.{eq-eqb, ne_eqb, lt-ltb}
+use borrow.Author.Tests.{eq-eqb, ne_eqb}
 use lib.ListN.{length, take, length-append}
 use lib.Seq.{length-take-le, sets}
 use Rattle.ledger.specs.Choice.{pick}
@@ -11,7 +11,7 @@ use Rattle.ledger.specs.Numbers.{journal_too_large}
 use Rattle.journal.specs.Header.{largest, header_of, version_of}
 use Rattle.journal.specs.Layout.{sum}
 use Rattle.journal.specs.Walking.{Walk, walk, walk_of, ending_of}
-use Rattle.journal.specs.Writing.{joined, further, further_on}
+use Rattle.journal.specs.Writing.{further}
 use Rattle.journal.proofs.GoodHeader.{too_large, header_number}
 use Rattle.journal.proofs.Walks.{bad_walk}
 use Rattle.journal.proofs.Moved.{appended_alone}

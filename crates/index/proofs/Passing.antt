@@ -1,18 +1,13 @@
 -- LOOKING UP GIVES THE SAME as counting: for every number, and 18 exactly past the last record.
-use mathlib.Core.Path.{◌≡◌, refl, sym, ap, ap₂, ◌∙◌}
-use mathlib.Core.List.{List, [], ◌∷◌, map}
-use Prim.Native.Nat.{ℕ, zero, suc, ◌+◌, ◌-◌, ◌*◌, ◌/◌, ◌%◌, ◌≤◌, ◌<◌}
+use mathlib.Core.Path.{◌≡◌, refl, sym, ap, ◌∙◌}
+use mathlib.Core.List.{List}
+use Prim.Native.Nat.{ℕ, zero, suc, ◌+◌, ◌-◌, ◌≤◌, ◌<◌}
 use native.Mathlib.Omega.{arith}
-use borrow.Author.Tests.{lt-ltb, le-ltb}
-use lib.Dec.{ltb}
-use lib.ListN.{length, get_or}
-use Rattle.ledger.specs.Choice.{pick}
 use Rattle.journal.specs.Reading.{read_at}
-use Rattle.journal.specs.Walking.{Entry, Walk, walk, walk_of, ending_of}
 use Rattle.journal.specs.declared.records.Record.{Record}
 use Rattle.journal.specs.declared.records.Found.{Found}
 use Rattle.journal.specs.declared.records.Found.TheVariants.{One, Stop, End}
-use Rattle.index.specs.Looking.{Sought, there, nowhere, counted, behind_one, passed}
+use Rattle.index.specs.Looking.{passed}
 
 module _ (v : ℕ) (j : List ℕ) (at : ℕ) where
   pub passed_one : (n : ℕ) (r : Record) (next : ℕ) → read_at v j at ≡ One r next → passed (suc n) v j at ≡ passed n v j next

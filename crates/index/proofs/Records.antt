@@ -1,8 +1,8 @@
 -- What is known of a record that was read: it has at least seven bytes, asks for at most 65,535, and is of one of six kinds.
-use mathlib.Core.Path.{◌≡◌, refl, sym, ap, ◌∙◌}
+use mathlib.Core.Path.{◌≡◌}
 use mathlib.Core.Bool.{false}
 use mathlib.Core.List.{List, [], ◌∷◌}
-use Prim.Native.Nat.{ℕ, zero, suc, ◌+◌, ◌*◌, ◌^◌, ◌≤◌, ◌<◌}
+use Prim.Native.Nat.{ℕ, zero, suc, ◌+◌, ◌^◌, ◌≤◌, ◌<◌}
 use native.Mathlib.Omega.{arith}
 use lib.Dec.{eqb}
 use lib.ListN.{length, get_or, take, drop}
@@ -13,9 +13,7 @@ use Rattle.journal.specs.Reading.{fields_in, read_at}
 use Rattle.journal.specs.declared.records.Record.{Record}
 use Rattle.journal.specs.declared.records.Record.TheVariants.{Event, Interrupt, Write, Seed, Read, BlockingRead}
 use Rattle.journal.specs.declared.records.Found.TheVariants.{One}
-use Rattle.journal.proofs.Runs.{Bytes}
 use Rattle.journal.proofs.Onward.{stands}
-use Rattle.journal.proofs.Sides.{by_less}
 use Rattle.index.specs.Summary.{asks}
 
 -- a kind that is known has fields of six bytes or more

@@ -13,7 +13,7 @@ use Rattle.ledger.proofs.Picks.{pick_by}
 use Rattle.journal.specs.Header.{largest}
 use Rattle.journal.specs.Walking.{ending_of}
 use Rattle.journal.proofs.Sides.{by_less, by_same}
-use Rattle.index.specs.Summary.{summary_of, index_of, records_in}
+use Rattle.index.specs.Summary.{index_of}
 use Rattle.index.specs.Calls.{ending_in, fresh_of, fresh_in, same, same_index, agrees, file_agrees, most_numbers, append_refused, look_refused}
 use Rattle.index.specs.Filing.{file_of}
 use Rattle.index.specs.declared.summary.Index.{Index}

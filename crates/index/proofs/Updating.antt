@@ -1,6 +1,6 @@
 -- THE UPDATED INDEX is the one worked out afresh: record by record, and for any number of records more.
 use mathlib.Core.Path.{◌≡◌, refl, sym, ap, ◌∙◌}
-use mathlib.Core.Bool.{true, false}
+use mathlib.Core.Bool.{true}
 use mathlib.Core.List.{List, [], ◌∷◌, ◌++◌, map, map-append, append-nil}
 use Prim.Native.Nat.{ℕ, zero, suc, ◌+◌, ◌-◌, ◌*◌, ◌/◌, ◌%◌, ◌≤◌, ◌<◌}
 use native.Mathlib.Omega.{arith}
@@ -13,10 +13,8 @@ use Rattle.ledger.proofs.Picks.{pick_by}
 use Rattle.journal.specs.Layout.{sum, kind_of}
 use Rattle.journal.specs.Walking.{Entry}
 use Rattle.journal.specs.Writing.{further}
-use Rattle.journal.specs.declared.records.Record.{Record}
 use Rattle.journal.proofs.Sides.{by_same}
 use Rattle.index.specs.Summary.{every, most_places, kinds_there_are, table, places_of, of_kind, kinds_of, asks, reads_of, index, summary_of, records_in, added, updated}
-use Rattle.index.specs.declared.summary.Index.{Index}
 use Rattle.index.proofs.Records.{one_of_six}
 use Rattle.index.proofs.Tables.{length-table, get_or-table, get_or_last, get_or_not_last}
 

@@ -1,9 +1,9 @@
 -- One pass over a journal works its index out.
 use mathlib.Core.Path.{◌≡◌, refl, sym, ap, ap₂, ◌∙◌}
 use mathlib.Core.List.{List, [], map}
-use Prim.Native.Nat.{ℕ, ◌+◌, ◌*◌, ◌≤◌, ◌<◌}
+use Prim.Native.Nat.{ℕ, ◌+◌, ◌≤◌, ◌<◌}
 use native.Mathlib.Omega.{arith}
-use borrow.Author.Tests.{eq-eqb, ne_eqb, lt-ltb, le-ltb}
+use borrow.Author.Tests.{ne_eqb, lt-ltb, le-ltb}
 use lib.ListN.{length, get_or, take, replicate, get_or-replicate, length-replicate, get_or-eq_default}
 use lib.Seq.{length-take-le}
 use Rattle.ledger.specs.Choice.{pick}
@@ -14,7 +14,7 @@ use Rattle.journal.specs.Writing.{further}
 use Rattle.journal.specs.declared.heading.Heading.{Heading}
 use Rattle.journal.proofs.Sides.{by_less}
 use Rattle.journal.proofs.GoodHeader.{header_good, heading_good}
-use Rattle.journal.proofs.Walks.{good_walk, refused}
+use Rattle.journal.proofs.Walks.{good_walk}
 use Rattle.index.specs.Summary.{most_places, kinds_there_are, index, summary_of, index_of, records_in, updated}
 use Rattle.index.specs.Room.{Roomy}
 use Rattle.index.specs.Calls.{fresh_of, fresh_in}

@@ -7,7 +7,7 @@ use Rattle.ledger.specs.Numbers.{too_long, journal_too_large, index_differs}
 use Rattle.journal.specs.Header.{largest}
 use Rattle.journal.specs.Walking.{ending_of}
 use Rattle.index.specs.Summary.{summary_of, index_of}
-use Rattle.index.specs.Looking.{Sought, look_up}
+use Rattle.index.specs.Looking.{look_up}
 use Rattle.index.specs.Filing.{file_of}
 use Rattle.index.specs.declared.summary.Index.{Index}
 use Rattle.index.specs.declared.fresh.Fresh.{Fresh}

@@ -17,7 +17,7 @@ use ledger::numbers::{INDEX_DIFFERS, JOURNAL_TOO_LARGE};
 
 // What came of appending: 0, and the longer journal's length and index; or the number that refused it, and both as they were.
 #[repr(C)]
-#[derive(Drop)]
+#[derive(Clone, Copy)]
 pub struct Appended {
     pub number: u32,
     pub len: usize,

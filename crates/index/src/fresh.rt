@@ -13,7 +13,7 @@ use ledger::numbers::JOURNAL_TOO_LARGE;
 
 // The number that a journal ends with, and its index; where the number is not 0, an index of nothing.
 #[repr(C)]
-#[derive(Drop)]
+#[derive(Clone, Copy)]
 pub struct Fresh {
     pub number: u32,
     pub index: Index,

@@ -49,7 +49,7 @@ fn wide(place: u32) -> usize
 }
 
 // What is found of a record number: the answer, and the place.
-#[derive(Drop)]
+#[derive(Clone, Copy)]
 struct Looked {
     answer: u32,
     place: u32,

@@ -10,7 +10,7 @@ pub const KINDS: usize = 6;
 
 // The places of records 0, 64, 128 and so on; how many records there are of kinds 1 to 6; the sum of the lengths that kinds 5 and 6 ask for.
 #[repr(C)]
-#[derive(Drop)]
+#[derive(Clone, Copy)]
 pub struct Index {
     pub places: [u32; PLACES],
     pub kinds: [u32; KINDS],

@@ -12,7 +12,7 @@ use crate::summary::{EVERY, KINDS, PLACES};
 use journal::{Found, Record, read};
 
 // What a record counts for: its kind, and the length that it asks for where it is a read.
-#[derive(Drop)]
+#[derive(Clone, Copy)]
 struct Worth {
     kind: usize,
     asks: u32,
@@ -51,7 +51,7 @@ fn count_kind(kinds: &mut [u32; KINDS], kind: usize)
 }
 
 // What came of a run of records: the number that ended it, how many there are now, and the sum of the lengths that reads ask for.
-#[derive(Drop)]
+#[derive(Clone, Copy)]
 pub struct Passed {
     pub number: u32,
     pub count: usize,

@@ -1,0 +1,13 @@
+use mathlib.Core.Path.{◌∙◌}
+use native.Mathlib.Omega.{arith}
+use Rattle.index.proofs.Filed.{laid_file, file_length}
+use Rattle.index.proofs.filing.lay_file.Goals as goal
+
+pub returns : goal.returns
+returns c = let places = c.lay_places.ensures in
+    let total = c.lay_sum.ensures in
+    let kinds = c.lay_kinds.ensures in
+    let opened = c.open.ensures in
+    let n = c.places_used-n.ensures in
+    let ix = c.args.index in
+    record { room_after = (laid_file ix _ kinds.room_len_unchanged.1 places.room_len_unchanged.1 n.0 c.args.room.now _ _ _ _ opened.room_after kinds.room_after total.room_after places.room_after, file_length ix _ kinds.room_len_unchanged.1 places.room_len_unchanged.1 n.0); upper_bound = (omega (arith, n.1), places.room_len_unchanged.0 ∙ total.room_len_unchanged ∙ kinds.room_len_unchanged.0 ∙ opened.room_len_unchanged ∙ c.requires) }

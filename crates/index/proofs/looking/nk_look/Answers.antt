@@ -1,0 +1,10 @@
+use mathlib.Core.Path.{◌∙◌}
+use Rattle.index.proofs.Refusing.{look_tested}
+use Rattle.index.proofs.looking.nk_look.Goals as goal
+
+pub returns : goal.returns
+returns c = let told = c.look_if.ensures in
+    let alike = c.same_index-good.ensures in
+    let found = c.fresh_in-it.ensures.value in
+    let a = c.args in
+    record { value = told.value ∙ look_tested a.room.now a.len _ found a.index _ alike a.numbers.now; answers_after = told.answers_after; found_after = told.found_after }
