@@ -1,7 +1,7 @@
 // The desk call on the keeper's parts and the desk's.
 ghost use Rattle.std.specs.Prelude.{◌≡◌, ◌&&◌, List, ℕ, leb};
 ghost use Rattle.ledger.specs.Range.{ledger_in_range};
-ghost use Rattle.steps.specs.Promise.{lent, still};
+ghost use Rattle.steps.specs.Promise.{both, lent, still};
 ghost use Rattle.desk.specs.Sizes.{remembers};
 ghost use Rattle.desk.specs.Desks.{desk_of};
 ghost use Rattle.desk.specs.Issuing.{left_with, nothing_yet, none, class_of, issue};
@@ -65,7 +65,7 @@ pub fn issue_on(
     at: u32,
     field: &[u8],
 ) -> Desked
-    ensures { (clocks blocking fast : List ℕ) → let k = lent l result.ledger (still clocks) firsts seconds came input (still blocking) (still fast) generator in left_with k.exit (desk_of result.count numbers.new) result.issued ≡ issue k.entry (desk_of count numbers.old) at field.now }
+    ensures { (clocks blocking fast : List ℕ) → let k = lent l result.ledger (still clocks) (still firsts.now) (still seconds.now) (still came.now) (both input.old input.new) (still blocking) (still fast) (both generator.old generator.new) in left_with k.exit (desk_of result.count numbers.new) result.issued ≡ issue k.entry (desk_of count numbers.old) at field.now }
 {
     let others = others_in_range(&firsts[..], &seconds[..], &came[..], generator);
     if !in_range(others, l, count) {

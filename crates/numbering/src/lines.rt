@@ -1,6 +1,6 @@
 // One number issued, and its line.
 ghost use Rattle.std.specs.Prelude.{◌≡◌, List, ℕ, ◌≤◌, length};
-ghost use Rattle.steps.specs.Promise.{lent, still};
+ghost use Rattle.steps.specs.Promise.{both, lent, still};
 ghost use Rattle.desk.specs.Desks.{desk_of};
 ghost use Rattle.desk.specs.Issuing.{issue};
 ghost use Rattle.transcript.specs.Text.{Put};
@@ -57,7 +57,7 @@ pub fn number_line(
     field: &[u8],
     room: &mut [u8; LONGEST_ISSUED],
 ) -> Numbered
-    ensures { (clocks blocking fast : List ℕ) → let k = lent l result.ledger (still clocks) firsts seconds came input (still blocking) (still fast) generator in IssuedWith (issue k.entry (desk_of count.old numbers.old) at field.now) k.exit (desk_of count.new numbers.new) room.old room.new result.len }
+    ensures { (clocks blocking fast : List ℕ) → let k = lent l result.ledger (still clocks) (still firsts.now) (still seconds.now) (still came.now) (both input.old input.new) (still blocking) (still fast) (both generator.old generator.new) in IssuedWith (issue k.entry (desk_of count.old numbers.old) at field.now) k.exit (desk_of count.new numbers.new) room.old room.new result.len }
 {
     let d = issue_on(
         l, firsts, seconds, came, input, generator, *count, numbers, at, field,

@@ -1,6 +1,6 @@
 // A journal run on a keeper, and its lines thrown away.
 ghost use Rattle.std.specs.Prelude.{◌≡◌};
-ghost use Rattle.steps.specs.Promise.{lent};
+ghost use Rattle.steps.specs.Promise.{both, lent};
 ghost use Rattle.replay.specs.Whole.{replayed};
 ghost use Rattle.numbering.specs.Running.{ran_from};
 
@@ -29,7 +29,7 @@ fn run_out(
     fast: &mut [u32; FAST_WORDS],
     generator: &mut [u32; GENERATOR_WORDS],
 ) -> Ledger
-    ensures { let k = lent l result clocks firsts seconds came input blocking fast generator in k.exit ≡ ran_from version j.now at k.entry }
+    ensures { let k = lent l result (both clocks.old clocks.new) (both firsts.old firsts.new) (both seconds.old seconds.new) (both came.old came.new) (both input.old input.new) (both blocking.old blocking.new) (both fast.old fast.new) (both generator.old generator.new) in k.exit ≡ ran_from version j.now at k.entry }
 {
     let mut out = [0u8; OUT_ROOM];
     let mut line = [0u8; LONGEST_LINE];
@@ -64,7 +64,7 @@ pub fn replay_on(
     fast: &mut [u32; FAST_WORDS],
     generator: &mut [u32; GENERATOR_WORDS],
 ) -> Ledger
-    ensures { let k = lent l result clocks firsts seconds came input blocking fast generator in k.exit ≡ replayed j.now k.entry }
+    ensures { let k = lent l result (both clocks.old clocks.new) (both firsts.old firsts.new) (both seconds.old seconds.new) (both came.old came.new) (both input.old input.new) (both blocking.old blocking.new) (both fast.old fast.new) (both generator.old generator.new) in k.exit ≡ replayed j.now k.entry }
 {
     let h = header(j);
     if h.number != 0 {

@@ -2,7 +2,7 @@
 ghost use Rattle.std.specs.Prelude.{◌≡◌, List, ℕ, ◌+◌, min, length};
 ghost use Rattle.ledger.specs.Sizes.{longest};
 ghost use Rattle.keeper.specs.Calls.{generator_read, blocking_read_of};
-ghost use Rattle.steps.specs.Promise.{Leaves, lent, still};
+ghost use Rattle.steps.specs.Promise.{Leaves, both, lent, still};
 ghost use Rattle.journal.specs.Writing.{carried_by};
 ghost use Rattle.replay.specs.Running.{device_named, call_with};
 
@@ -34,7 +34,7 @@ fn read_into(
     len: u32,
 ) -> Done
     requires { length out.old ≡ longest + 1 }
-    ensures { (clocks blocking fast : List ℕ) → Leaves (lent l result.ledger (still clocks) firsts seconds came input (still blocking) (still fast) generator) result.answer (generator_read at len) out.old out.new }
+    ensures { (clocks blocking fast : List ℕ) → Leaves (lent l result.ledger (still clocks) (still firsts.now) (still seconds.now) (still came.now) (both input.old input.new) (still blocking) (still fast) (both generator.old generator.new)) result.answer (generator_read at len) out.old out.new }
 {
     let n = room_for(len);
     read_on(
@@ -62,7 +62,7 @@ fn blocking_read_into(
     len: u32,
 ) -> Done
     requires { length out.old ≡ longest + 1 }
-    ensures { (clocks fast : List ℕ) → Leaves (lent l result.ledger (still clocks) firsts seconds came input blocking (still fast) generator) result.answer (blocking_read_of len) out.old out.new }
+    ensures { (clocks fast : List ℕ) → Leaves (lent l result.ledger (still clocks) (still firsts.now) (still seconds.now) (still came.now) (both input.old input.new) (both blocking.old blocking.new) (still fast) (still generator.now)) result.answer (blocking_read_of len) out.old out.new }
 {
     let n = room_for(len);
     blocking_read_on(
@@ -105,7 +105,7 @@ pub fn run(
     out: &mut [u8],
 ) -> Done
     requires { length out.old ≡ longest + 1 }
-    ensures { Leaves (lent l result.ledger clocks firsts seconds came input blocking fast generator) result.answer (call_with version (carried_by j.now it next) it) out.old out.new }
+    ensures { Leaves (lent l result.ledger (both clocks.old clocks.new) (both firsts.old firsts.new) (both seconds.old seconds.new) (both came.old came.new) (both input.old input.new) (both blocking.old blocking.new) (both fast.old fast.new) (both generator.old generator.new)) result.answer (call_with version (carried_by j.now it next) it) out.old out.new }
 {
     match it {
         Record::Event {

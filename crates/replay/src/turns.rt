@@ -1,7 +1,7 @@
 // One turn of a replay.
 ghost use Rattle.std.specs.Prelude.{◌≡◌, ◌≤◌, length, take};
 ghost use Rattle.transcript.specs.Lines.{line_in};
-ghost use Rattle.steps.specs.Promise.{lent};
+ghost use Rattle.steps.specs.Promise.{both, lent};
 ghost use Rattle.replay.specs.Turns.{turn_of, Took};
 
 use crate::running::{OUT_ROOM, run};
@@ -45,7 +45,7 @@ pub fn take_turn(
     out: &mut [u8; OUT_ROOM],
     room: &mut [u8; LONGEST_LINE],
 ) -> Turn
-    ensures { let k = lent l result.ledger clocks firsts seconds came input blocking fast generator in Took (turn_of version j.now at k.entry) k.exit result out.old out.new room.old room.new }
+    ensures { let k = lent l result.ledger (both clocks.old clocks.new) (both firsts.old firsts.new) (both seconds.old seconds.new) (both came.old came.new) (both input.old input.new) (both blocking.old blocking.new) (both fast.old fast.new) (both generator.old generator.new) in Took (turn_of version j.now at k.entry) k.exit result out.old out.new room.old room.new }
 {
     match read(version, j, at) {
         Found::One(it, next) => {

@@ -1,6 +1,6 @@
 -- Demand 1 of the code: by its contract, what a call leaves is one fixed thing; where its answer is not 0, that is the record and the room as
 -- they were, nothing delivered, no work and nothing added. So too the making of a keeper.
-use mathlib.Core.Path.{◌≡◌, refl, sym, ap, ◌∙◌}
+use mathlib.Core.Path.{◌≡◌, sym, ap, ◌∙◌}
 use mathlib.Core.List.{List, []}
 use Prim.Native.Nat.{ℕ}
 use lib.ListN.{length}

@@ -29,6 +29,8 @@ pub ran_first : (n : ℕ) (k : Keeper) (cs : List Call) (xs : List Left) → Ran
 ran_first zero k cs xs r = ended
 ran_first (suc n) k [] [] ended = ended
 ran_first (suc n) k (c ∷ cs) (x ∷ xs) (next room h r) = next room h (ran_first n x.keeper cs xs r)
+ran_first (suc n) k [] (x ∷ xs) r = elim r [ ]
+ran_first (suc n) k (c ∷ cs) [] r = elim r [ ]
 
 -- a run gives the answers that its calls are told to give
 ran_answers : (j k : Keeper) (cs : List Call) (xs : List Left) → j ≡ k → Ran j cs xs → map (λ (x : Left). x.answer) xs ≡ map (λ (o : Outcome). o.answer) (outcomes k cs)
@@ -37,6 +39,8 @@ ran_answers j k [] [] e ended = refl
 ran_answers j k (c ∷ cs) (x ∷ xs) e (next room h r) =
     ap₂ (λ (a : Answer) (l : List Answer). a ∷ l) (ap (λ (y : Left). y.answer) h ∙ ap (λ (i : Keeper). (told i c).answer) e)
     (ran_answers x.keeper (told k c).keeper cs xs (ap (λ (y : Left). y.keeper) h ∙ ap (λ (i : Keeper). (told i c).keeper) e) r)
+ran_answers j k [] (x ∷ xs) e x5 = elim x5 [ ]
+ran_answers j k (c ∷ cs) [] e x4 = elim x4 [ ]
 
 module _ (k : Keeper) (start : List ℕ) (m : Left) (cs : List Call) (xs : List Left) (h : length start ≡ start_bytes) (r : MadeAndRan k start m cs xs) where
   -- the making leaves a fresh keeper

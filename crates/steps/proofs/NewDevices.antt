@@ -22,6 +22,8 @@ unfolding last_of keeper_after leaves
 ran_to j k [] [] e ended = e
 ran_to j k (c ∷ cs) (x ∷ xs) e (next room h r) =
     ran_to x.keeper (told k c).keeper cs xs (ap (λ (y : Left). y.keeper) h ∙ ap (λ (i : Keeper). (told i c).keeper) e) r
+ran_to j k [] (x ∷ xs) e x5 = elim x5 [ ]
+ran_to j k (c ∷ cs) [] e x4 = elim x4 [ ]
 
 pub nothing_at_first : (k : Keeper) (start : List ℕ) (m : Left) (cs : List Call) (xs : List Left) → length start ≡ start_bytes → MadeAndRan k start m cs xs
     → (device now stamp value : ℕ) (room : List ℕ) (x : Left) → device < devices → length (kept_clocks device (reverse (map public cs))) < events_before

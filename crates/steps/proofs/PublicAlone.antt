@@ -24,6 +24,8 @@ shows j k (c ∷ cs) (x ∷ xs) e (next room h r) =
     let o : showing x ≡ shown (told k c) = ap showing h ∙ ap (λ (i : Keeper). shown (told i c)) e in
     let t = ap (λ (y : Left). y.keeper) h ∙ ap (λ (i : Keeper). (told i c).keeper) e in
     ap₂ ◌∷◌ o (shows x.keeper (told k c).keeper cs xs t r)
+shows j k [] (x ∷ xs) e x5 = elim x5 [ ]
+shows j k (c ∷ cs) [] e x4 = elim x4 [ ]
 
 -- DEMAND 3
 pub public_alone : (k k' : Keeper) (start start' : List ℕ) → length start ≡ start_bytes → length start' ≡ start_bytes → (m m' : Left) (cs cs' : List Call) (xs ys : List Left)

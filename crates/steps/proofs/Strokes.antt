@@ -3,7 +3,7 @@
 use mathlib.Core.Path.{◌≡◌, refl, sym, ap, ap₂, ◌∙◌}
 use mathlib.Core.Bool.{Bool, true, false}
 use mathlib.Core.List.{List, [], ◌++◌, append-nil}
-use Prim.Native.Nat.{ℕ, ◌≤◌}
+use Prim.Native.Nat.{ℕ}
 use native.Mathlib.Omega.{arith}
 use lib.ListN.{length, take, drop, drop_of_length-le}
 use Rattle.words.specs.Bytes.{words_bytes, bytes_words}
@@ -11,7 +11,7 @@ use Rattle.ledger.specs.Choice.{pick}
 use Rattle.ledger.specs.Shapes.{Shape, input_shape, blocking_shape}
 use Rattle.ledger.specs.Marks.{with_spots}
 use Rattle.ledger.specs.Range.{others_in_range}
-use Rattle.ledger.specs.PublicCalls.{PublicCall, event, interrupt, write, seed, read, blocking_read, device_of}
+use Rattle.ledger.specs.PublicCalls.{PublicCall, event, interrupt, write, seed, read, blocking_read}
 use Rattle.ledger.specs.Sizes.{input_words, blocking_words}
 use Rattle.ledger.specs.Timers.{Timers, fresh_timer, timer_of, kept}
 use Rattle.ledger.specs.Plans.{plan_call, decide, answer_of, bare}
@@ -23,7 +23,7 @@ use Rattle.ledger.specs.declared.Spot.{Spot}
 use Rattle.pool.specs.Mixing.{Pool, mix}
 use Rattle.pool.specs.Extracting.{Extract, extract}
 use Rattle.pool.proofs.Extracted.{laws}
-use Rattle.mixer.specs.Sizes.{shape_of, InPool}
+use Rattle.mixer.specs.Sizes.{shape_of}
 use Rattle.keeper.specs.FastPool.{stirred}
 use Rattle.keeper.specs.Generator.{xor_at, onto_key, Stream, generated}
 use Rattle.keeper.specs.Record.{timers_in, input_pool, blocking_pool, keeper_of, view, Outcome, refused, room_after}
@@ -36,7 +36,7 @@ use Rattle.keeper.proofs.Counter.{key_length, generated-length}
 use Rattle.keeper.proofs.Carried.{answer_is, none_taken, none_made, streamed_by, rests_blocking, rests_generator, still-generator, untouched}
 use Rattle.keeper.proofs.Same.{same}
 use Rattle.keeper.proofs.Refusals.{demand_1}
-use Rattle.steps.specs.Promise.{Left, left, over, leaves}
+use Rattle.steps.specs.Promise.{left, over, leaves}
 use Rattle.steps.proofs.Accepted.{any_timer, Feeds, EventPlan, InterruptPlan, FedPlan, WritePlan, ReadPlan, BlockingPlan}
 
 -- ---- the plan

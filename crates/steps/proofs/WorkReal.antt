@@ -21,6 +21,8 @@ carried k (c ∷ cs) (x ∷ xs) (next room e r) w =
     let ea : x.answer ≡ (told k c).answer = ap (λ (y : Left). y.answer) e in
     let real : Worked k (public c) x.keeper x.answer = rw (ek, ea) w.0 in
     worked {x = x} real (carried x.keeper cs xs r (rw ek w.1))
+carried k [] (x ∷ xs) x5 w = elim x5 [ ]
+carried k (c ∷ cs) [] x4 w = elim x4 [ ]
 
 -- WORK
 pub all_real : (k : Keeper) (start : List ℕ) → StartBytes start → (m : Left) (cs : List Call) (xs : List Left) → MadeAndRan k start m cs xs → LeftWorked m.keeper cs xs

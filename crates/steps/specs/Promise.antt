@@ -1,6 +1,5 @@
 -- What a call leaves in the terminal's hands, and what the paper says that it leaves.
 use Rattle.std.specs.Prelude.{◌≡◌, List, [], ◌++◌, drop, ℕ, ℤ}
-use Rattle.std.specs.Borrow.{Bor}
 use denote.Triple.Both.{Both}
 use Rattle.ledger.specs.Timers.{timers_of}
 use Rattle.ledger.specs.declared.Ledger.{Ledger}
@@ -11,19 +10,22 @@ use Rattle.keeper.specs.Narrative.{told}
 use Rattle.keeper.specs.declared.Keeper.{Keeper}
 
 -- ---- the record whose parts are lent
--- an array as a contract names it, at entry and at exit; one that is not lent stays
+-- an array, as it is at entry and at exit; one that is not lent, or lent only to be read, stays
 abbrev pub Lent : Type 0 → Type 0
-Lent A = Both (Bor (List A)) (Bor (List A))
+Lent A = Both (List A) (List A)
+
+abbrev pub both : {A : Type 0} → List A → List A → Lent A
+both xs ys = record { entry = xs; exit = ys }
 
 abbrev pub still : {A : Type 0} → List A → Lent A
-still xs = record { entry = record { ref_ptr = (0, 0); now = xs }; exit = record { ref_ptr = (0, 0); now = xs } }
+still xs = both xs xs
 
 -- the record, at entry and at exit
 abbrev pub lent : Ledger → Ledger → Lent ℕ → Lent ℤ → Lent ℤ → Lent ℕ → Lent ℕ → Lent ℕ → Lent ℕ → Lent ℕ → Both Keeper Keeper
 lent l m clocks firsts seconds came input blocking fast generator =
     record {
-      entry = keeper_of l (timers_of clocks.entry.now firsts.entry.now seconds.entry.now came.entry.now) input.entry.now blocking.entry.now fast.entry.now generator.entry.now;
-      exit = keeper_of m (timers_of clocks.exit.now firsts.exit.now seconds.exit.now came.exit.now) input.exit.now blocking.exit.now fast.exit.now generator.exit.now;
+      entry = keeper_of l (timers_of clocks.entry firsts.entry seconds.entry came.entry) input.entry blocking.entry fast.entry generator.entry;
+      exit = keeper_of m (timers_of clocks.exit firsts.exit seconds.exit came.exit) input.exit blocking.exit fast.exit generator.exit;
     }
 
 -- ---- the record, the answer and the output room, all as they are when a call is over

@@ -1,7 +1,7 @@
 // The calls that bring bytes: device event, interrupt, write, seed.
 ghost use Rattle.std.specs.Prelude.{◌≡◌, List, [], ℕ};
 ghost use Rattle.keeper.specs.Calls.{device_event, interrupted, written, seeded_with};
-ghost use Rattle.steps.specs.Promise.{Leaves, lent, still};
+ghost use Rattle.steps.specs.Promise.{Leaves, both, lent, still};
 
 use crate::answers::{Done, answered, carried_out};
 use crate::range::others_in_range;
@@ -27,7 +27,7 @@ pub fn event_on(
     stamp: u64,
     value: u32,
 ) -> Done
-    ensures { (blocking fast : List ℕ) → Leaves (lent l result.ledger clocks firsts seconds came input (still blocking) (still fast) generator) result.answer (device_event device at stamp value) [] [] }
+    ensures { (blocking fast : List ℕ) → Leaves (lent l result.ledger (both clocks.old clocks.new) (both firsts.old firsts.new) (both seconds.old seconds.new) (both came.old came.new) (both input.old input.new) (still blocking) (still fast) (both generator.old generator.new)) result.answer (device_event device at stamp value) [] [] }
 {
     let others = others_in_range(&firsts[..], &seconds[..], &came[..], generator);
     let t = timer_of(clocks, firsts, seconds, came, device);
@@ -55,7 +55,7 @@ pub fn interrupt_on(
     stamp: u64,
     address: u64,
 ) -> Done
-    ensures { (clocks blocking : List ℕ) → Leaves (lent l result.ledger (still clocks) firsts seconds came input (still blocking) fast generator) result.answer (interrupted at number stamp address) [] [] }
+    ensures { (clocks blocking : List ℕ) → Leaves (lent l result.ledger (still clocks) (still firsts.now) (still seconds.now) (still came.now) (both input.old input.new) (still blocking) (both fast.old fast.new) (both generator.old generator.new)) result.answer (interrupted at number stamp address) [] [] }
 {
     let others = others_in_range(&firsts[..], &seconds[..], &came[..], generator);
     let p = decide_interrupt(others, l, at, number);
@@ -83,7 +83,7 @@ pub fn write_on(
     generator: &[u32; GENERATOR_WORDS],
     bytes: &[u8],
 ) -> Done
-    ensures { (clocks blocking fast : List ℕ) → Leaves (lent l result.ledger (still clocks) firsts seconds came input (still blocking) (still fast) generator) result.answer (written bytes.now) [] [] }
+    ensures { (clocks blocking fast : List ℕ) → Leaves (lent l result.ledger (still clocks) (still firsts.now) (still seconds.now) (still came.now) (both input.old input.new) (still blocking) (still fast) (still generator.now)) result.answer (written bytes.now) [] [] }
 {
     let others = others_in_range(&firsts[..], &seconds[..], &came[..], generator);
     let p = decide_write(others, l, bytes.len());
@@ -106,7 +106,7 @@ pub fn seed_on(
     bytes: &[u8],
     credit: u32,
 ) -> Done
-    ensures { (clocks blocking fast : List ℕ) → Leaves (lent l result.ledger (still clocks) firsts seconds came input (still blocking) (still fast) generator) result.answer (seeded_with at bytes.now credit) [] [] }
+    ensures { (clocks blocking fast : List ℕ) → Leaves (lent l result.ledger (still clocks) (still firsts.now) (still seconds.now) (still came.now) (both input.old input.new) (still blocking) (still fast) (both generator.old generator.new)) result.answer (seeded_with at bytes.now credit) [] [] }
 {
     let others = others_in_range(&firsts[..], &seconds[..], &came[..], generator);
     let p = decide_seed(others, l, at, bytes.len(), credit);

@@ -4,7 +4,7 @@ ghost use Rattle.words.specs.Bytes.{bytes_words};
 ghost use Rattle.ledger.specs.Sizes.{start_bytes};
 ghost use Rattle.ledger.specs.Marks.{fresh_ledger};
 ghost use Rattle.ledger.specs.Range.{fixed_words};
-ghost use Rattle.steps.specs.Promise.{lent, left, leaves_made};
+ghost use Rattle.steps.specs.Promise.{both, lent, left, leaves_made};
 
 use crate::answers::{Done, answered};
 use ledger::numbers::{DONE, START_NOT_48};
@@ -78,7 +78,7 @@ pub fn make_on(
     generator: &mut [u32; GENERATOR_WORDS],
     start: &[u8],
 ) -> Done
-    ensures { let k = lent l result.ledger clocks firsts seconds came input blocking fast generator in left k.exit result.answer [] ≡ leaves_made k.entry start.now }
+    ensures { let k = lent l result.ledger (both clocks.old clocks.new) (both firsts.old firsts.new) (both seconds.old seconds.new) (both came.old came.new) (both input.old input.new) (both blocking.old blocking.new) (both fast.old fast.new) (both generator.old generator.new) in left k.exit result.answer [] ≡ leaves_made k.entry start.now }
 {
     if start.len() != START_BYTES {
         return answered(l, START_NOT_48);

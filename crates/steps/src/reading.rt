@@ -1,7 +1,7 @@
 // The calls that take bytes: generator read and blocking read. The output room is lent, and its length is the read's.
 ghost use Rattle.std.specs.Prelude.{◌≡◌, List, [], ℕ, length};
 ghost use Rattle.keeper.specs.Calls.{generator_read, blocking_read_of};
-ghost use Rattle.steps.specs.Promise.{Leaves, lent, still};
+ghost use Rattle.steps.specs.Promise.{Leaves, both, lent, still};
 
 use crate::answers::{Done, answered, carried_out};
 use crate::range::others_in_range;
@@ -23,7 +23,7 @@ pub fn read_on(
     at: u32,
     out: &mut [u8],
 ) -> Done
-    ensures { (clocks blocking fast : List ℕ) → Leaves (lent l result.ledger (still clocks) firsts seconds came input (still blocking) (still fast) generator) result.answer (generator_read at (length out.old)) out.old out.new }
+    ensures { (clocks blocking fast : List ℕ) → Leaves (lent l result.ledger (still clocks) (still firsts.now) (still seconds.now) (still came.now) (both input.old input.new) (still blocking) (still fast) (both generator.old generator.new)) result.answer (generator_read at (length out.old)) out.old out.new }
 {
     let others = others_in_range(&firsts[..], &seconds[..], &came[..], generator);
     let p = decide_read(others, l, at, out.len());
@@ -46,7 +46,7 @@ pub fn blocking_read_on(
     generator: &[u32; GENERATOR_WORDS],
     out: &mut [u8],
 ) -> Done
-    ensures { (clocks fast : List ℕ) → Leaves (lent l result.ledger (still clocks) firsts seconds came input blocking (still fast) generator) result.answer (blocking_read_of (length out.old)) out.old out.new }
+    ensures { (clocks fast : List ℕ) → Leaves (lent l result.ledger (still clocks) (still firsts.now) (still seconds.now) (still came.now) (both input.old input.new) (both blocking.old blocking.new) (still fast) (still generator.now)) result.answer (blocking_read_of (length out.old)) out.old out.new }
 {
     let others = others_in_range(&firsts[..], &seconds[..], &came[..], generator);
     let p = decide_blocking_read(others, l, out.len());

@@ -4,7 +4,6 @@ use Rattle.ledger.proofs.SmallPlans.{small}
 use Rattle.keeper.specs.Calls.{device_event}
 use Rattle.steps.proofs.Accepted.{so, in_pools, EventPlan, event_plan}
 use Rattle.steps.proofs.Strokes.{event_decided, refusal, event-done}
-use borrow.Author.Rules.{rules}
 use Rattle.steps.proofs.feeding.event_on.Goals as goal
 
 pub returns-then-p-ne-DONE : goal.returns-then-p-ne-DONE
@@ -14,7 +13,7 @@ pub keep_timer-requires : goal.keep_timer-requires
 keep_timer-requires c = (so (EventPlan _) c.decide_event-p.ensures (event_plan _ _ _ _ _ _) c.if-p-ne-DONE.false).device_small
 
 pub feed_event-fed-requires : goal.feed_event-fed-requires
-feed_event-fed-requires c = rw c.feed_event-arg-1.given.0.1 ((in_pools _ _ _ _ _ c.decide_event-p.ensures c.if-p-ne-DONE.false).input, refl)
+feed_event-fed-requires c = rw c.feed_event-arg-1.given.0.1 (record { in_pool = (in_pools _ _ _ _ _ c.decide_event-p.ensures c.if-p-ne-DONE.false).input; ws_len = refl })
 
 pub reseed-s-requires : goal.reseed-s-requires
 reseed-s-requires c = record { in_pool = rw c.reseed-arg-1.given.0.1 (rw c.feed_event-arg-1.given.0.1 at c.feed_event-fed.ensures.in_pool_2); g_len = c.reseed-arg-2-1.given.0.1; t_bound = rw c.decide_event-p.ensures (small _ _ _ _).reseed }

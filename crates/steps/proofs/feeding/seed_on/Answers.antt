@@ -4,7 +4,6 @@ use Rattle.ledger.proofs.SmallPlans.{small}
 use Rattle.keeper.specs.Calls.{seeded_with}
 use Rattle.steps.proofs.Accepted.{so, in_pools, FedPlan, seed_plan}
 use Rattle.steps.proofs.Strokes.{decided, seed_untimed, refusal, seed-done}
-use borrow.Author.Rules.{rules}
 use Rattle.steps.proofs.feeding.seed_on.Goals as goal
 
 pub returns-then-p-ne-DONE : goal.returns-then-p-ne-DONE

@@ -4,7 +4,6 @@ use Rattle.ledger.proofs.SmallPlans.{small}
 use Rattle.keeper.specs.Calls.{written}
 use Rattle.steps.proofs.Accepted.{so, in_pools, WritePlan, write_plan}
 use Rattle.steps.proofs.Strokes.{decided, write_untimed, refusal, write_done}
-use borrow.Author.Rules.{rules}
 use Rattle.steps.proofs.feeding.write_on.Goals as goal
 
 pub returns-then-p-ne-DONE : goal.returns-then-p-ne-DONE

@@ -1,5 +1,4 @@
 use Rattle.steps.proofs.Starting.{first_words}
-use borrow.Author.Rules.{rules}
 use Rattle.steps.proofs.making.first_words.Goals as goal
 
 pub returns : goal.returns

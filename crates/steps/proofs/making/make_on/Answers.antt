@@ -1,7 +1,6 @@
 use mathlib.Core.Path.{sym, ap}
 use Rattle.keeper.proofs.Refusals.{making_48, making_refuses}
 use Rattle.steps.specs.Promise.{over, leaves_made}
-use borrow.Author.Rules.{rules}
 use Rattle.steps.proofs.making.make_on.Goals as goal
 
 pub returns-then-start-ne-START_BYTES : goal.returns-then-start-ne-START_BYTES

@@ -1,7 +1,6 @@
 use mathlib.Core.Path.{◌∙◌}
 use native.Mathlib.Omega.{arith}
 use Rattle.steps.proofs.Starting.{word_read}
-use borrow.Author.Rules.{rules}
 use Rattle.steps.proofs.making.start_word.Goals as goal
 
 pub returns : goal.returns

@@ -1,5 +1,3 @@
-use mathlib.Core.Path.{◌≡◌}
-use borrow.Author.Rules.{rules}
 use Rattle.steps.proofs.range.others_in_range.Goals as goal
 
 pub returns : goal.returns
