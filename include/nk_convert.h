@@ -1,5 +1,5 @@
 /* Journals of version 1 written as version 2, as C calls it. docs/HEADER.md says what holds each sentence. The call needs no keeper, and stands
- * in an archive of its own: `rt staticlib convert` writes it.
+ * in an archive of its own, that of the crate convert_c.
  *
  * Version 2 has two bytes for the device of an event, where version 1 has one; all else is the same. So the outcome is one byte longer for each
  * event. It has the same records, and its replay has the same transcript and leaves the same keeper.

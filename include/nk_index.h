@@ -1,5 +1,5 @@
 /* A summary beside a journal, as C calls it: the index of a journal that stands in a room of 61,440 bytes. docs/HEADER.md says what holds
- * each sentence. These calls need no keeper, and stand in an archive of their own: `rt staticlib index` writes it.
+ * each sentence. These calls need no keeper, and stand in an archive of their own, that of the crate index_c.
  *
  * The journal is the room's first `len` bytes, of version 1 or 2; what is appended to it is read in its version. Its index has the byte
  * places of records 0, 64, 128 and so on, counted from 0, how many records there are of kinds 1 to 6, and the sum of the lengths that reads

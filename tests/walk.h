@@ -187,7 +187,7 @@ static void compare(const struct step *was, const struct step *is, struct instru
     addresses_compared += (uint64_t)i->operands;
 }
 
-/* The emulator does not align the stack of a handler as the ABI has it. */
+/* An emulator may not align the stack of a handler as the ABI has it. */
 __attribute__((force_align_arg_pointer)) static void on_step(int signal, siginfo_t *info, void *context) {
     (void)signal, (void)info;
     const greg_t *values = ((const ucontext_t *)context)->uc_mcontext.gregs;

@@ -1,7 +1,7 @@
 /* A made-up board, so that the terminal runs anywhere and always does the same; and a few days of its life, power cuts and damaged
  * memory among them. Only this file knows of a C library.
  *
- *     cc examples/terminal/[a-z]*.c target/staticlib/liblent.a     (x86-64; tests/run builds it anywhere)
+ *     cc examples/terminal/[a-z]*.c crates/lent/out/liblent.a     (README says what writes the archive; tests/run builds it too)
  *
  * Read terminal.c first, then store.c; what a board has to bring is in board.h. */
 #include <stdio.h>
