@@ -4,14 +4,12 @@ use mathlib.Core.Path.{◌≡◌, refl, ap}
 use mathlib.Core.Bool.{Bool, true}
 use mathlib.Core.List.{List}
 use Prim.Native.Nat.{ℕ, ◌≤◌, ◌<◌}
-use native.Mathlib.Omega.{arith}
-use borrow.Author.Tests.{lt-ltb, le-ltb, le-leb}
+use borrow.Author.Tests.{lt-ltb, le-ltb}
 use Rattle.ledger.specs.Choice.{pick}
 use Rattle.ledger.specs.Sizes.{devices}
 use Rattle.ledger.specs.Numbers.{no_such_device}
 use Rattle.journal.specs.Layout.{devices_in}
 use Rattle.journal.specs.declared.records.Record.TheVariants.{Event}
-use Rattle.keeper.specs.Calls.{device_event}
 use Rattle.keeper.specs.Record.{fine, refused}
 use Rattle.keeper.specs.Narrative.{event_call, act, told}
 use Rattle.keeper.specs.declared.Keeper.{Keeper}

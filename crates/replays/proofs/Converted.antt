@@ -23,7 +23,7 @@ use Rattle.keeper.specs.Demands.{outcomes, keeper_after}
 use Rattle.keeper.specs.declared.Keeper.{Keeper}
 use Rattle.convert.specs.Converting.{outcome_of, strange, beyond, refusal_of}
 use Rattle.convert.proofs.Refusing.{taken}
-use Rattle.convert.proofs.Converted.{header_2, same_start, same_records, ends}
+use Rattle.convert.proofs.ConvertedJournals.{header_2, same_start, same_records, ends}
 use Rattle.replay.specs.Running.{call_with, call_of}
 use Rattle.replay.specs.Whole.{calls_of, outcomes_of, lines_of, transcript_of, replayed}
 use Rattle.replay.proofs.OldDevices.{named}

@@ -7,7 +7,7 @@ use lib.Seq.{length-take-le}
 use borrow.Author.Rules.{rules}
 use Rattle.convert.specs.Converting.{converted_of}
 use Rattle.convert.specs.declared.converting.Converted.{Converted}
-use Rattle.convert.proofs.Converted.{within_room}
+use Rattle.convert.proofs.ConvertedJournals.{within_room}
 use Rattle.lab.proofs.converting.write_converted.Statement.{statement}
 use Rattle.lab.proofs.converting.write_converted.Tie as tie
 
