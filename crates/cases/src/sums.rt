@@ -55,7 +55,11 @@ pub fn run(rt: &impl Print) -> io::Result<()> {
     estimates(rt)?;
     difference(rt, "P3 clock 4 after 4294967295:", 4, 0xffff_ffff)?;
     difference(rt, "P4 clock 2147483648 after 0:", 0x8000_0000, 0)?;
-    credited(rt, "P5 input 0, credit 1:", reckon::credit(INPUT_SIZE, 0, 1))?;
+    credited(
+        rt,
+        "P5 input 0, credit 1:",
+        reckon::credit(INPUT_SIZE, 0, 1),
+    )?;
     credited(
         rt,
         "P6 input 32762, credit 1:",
