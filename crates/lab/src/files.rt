@@ -1,6 +1,6 @@
 // Files brought into memory.
 ghost use Rattle.std.specs.Prelude.{◌≤◌, length};
-ghost use Rattle.io.specs.Counts.{IsPrefixLen};
+ghost use Rattle.lab.specs.Counts.{IsPrefixLen};
 ghost use Rattle.std.specs.Io.{ReadsAtMost};
 
 use crate::messages::{StandardError, about, fail, name_too_long, no_name, opening};

@@ -1,5 +1,5 @@
 // What is said to a person where something is wrong: one line on standard error.
-ghost use Rattle.std.specs.Prelude.{◌≡◌, ◌×◌, ◌≤◌, IfOk, length};
+ghost use Rattle.std.specs.Prelude.{◌≡◌, ◌≤◌, IfOk, length};
 
 use std::env::FillError;
 use std::io;
