@@ -1,6 +1,7 @@
 // P7 to P12, the event that was worth 60 units, a new device's first five events, and the round that reaches the ledger's bound: calls on the ledger of a fresh keeper, of which all else is in range.
 use crate::print;
 use ledger::{Gauge, Ledger, Plan, Seeding, Spill, Spot};
+use std::io;
 
 fn fresh() -> Ledger {
     Ledger {
@@ -24,35 +25,36 @@ fn seeded(bits: u32) -> Plan {
 }
 
 // A generator read at clock 0, straight after a seeding, so that no reseed is due.
-fn read(text: &[u8], l: Ledger, len: usize) {
-    print::plan(text, decide::decide_read(true, l, 0, len));
+fn read(rt: &impl Print, text: &str, l: Ledger, len: usize) -> io::Result<()> {
+    print::plan(rt, text, decide::decide_read(true, l, 0, len))
 }
 
 // Straight after P10.
-fn blocking(p: Plan) {
+fn blocking(rt: &impl Print, p: Plan) -> io::Result<()> {
     let l = p.ledger;
     print::plan(
-        b"P11 a blocking read of 16:",
+        rt,
+        "P11 a blocking read of 16:",
         decide::decide_blocking_read(true, l, 16),
-    );
+    )
 }
 
-fn reads(p: Plan) {
+fn reads(rt: &impl Print, p: Plan) -> io::Result<()> {
     let l = p.ledger;
-    read(b"P12 a read of 32:", l, 32);
-    read(b"P12 a read of 33:", l, 33);
-    read(b"P12 a read of 64:", l, 64);
-    read(b"P12 a read of 65:", l, 65);
-    read(b"P12 a read of 97:", l, 97);
+    read(rt, "P12 a read of 32:", l, 32)?;
+    read(rt, "P12 a read of 33:", l, 33)?;
+    read(rt, "P12 a read of 64:", l, 64)?;
+    read(rt, "P12 a read of 65:", l, 65)?;
+    read(rt, "P12 a read of 97:", l, 97)
 }
 
 // An event of device 1 on top of what a plan left, and the plan for it.
-fn event(text: &[u8], before: Plan, now: u32) -> Plan {
+fn event(rt: &impl Print, text: &str, before: Plan, now: u32) -> io::Result<Plan> {
     let l = before.ledger;
     let t = before.timer;
     let p = decide::decide_event(true, l, t, 1, now, 0);
-    print::plan(text, p);
-    p
+    print::plan(rt, text, p)?;
+    Ok(p)
 }
 
 // What is planned on a fresh keeper for a write of nothing: a fresh ledger, and a fresh timer beside it.
@@ -61,33 +63,35 @@ fn untouched() -> Plan {
 }
 
 // The first three events of a device earn nothing, whatever their estimates.
-fn new_device() {
-    let first = event(b"fresh, device 1, now 1024:", untouched(), 1024);
-    let second = event(b"its second event, now 3000:", first, 3000);
-    let third = event(b"its third event, now 7000:", second, 7000);
-    let fourth = event(b"its fourth event, now 15000:", third, 15000);
-    event(b"its fifth event, now 31000:", fourth, 31000);
+fn new_device(rt: &impl Print) -> io::Result<()> {
+    let first = event(rt, "fresh, device 1, now 1024:", untouched(), 1024)?;
+    let second = event(rt, "its second event, now 3000:", first, 3000)?;
+    let third = event(rt, "its third event, now 7000:", second, 7000)?;
+    let fourth = event(rt, "its fourth event, now 15000:", third, 15000)?;
+    event(rt, "its fifth event, now 31000:", fourth, 31000)?;
+    Ok(())
 }
 
 // 128 bits awarded, 9 bytes delivered, and both counts 0 again: 128 times 9 is 9 times 128, and no more can be had for them.
-fn at_the_bound() {
+fn at_the_bound(rt: &impl Print) -> io::Result<()> {
     let paid = decide::decide_seed(true, fresh(), 0, 16, 128);
-    print::plan(b"at the bound, credit 128:", paid);
+    print::plan(rt, "at the bound, credit 128:", paid)?;
     let l = paid.ledger;
     print::plan(
-        b"then a blocking read of 12:",
+        rt,
+        "then a blocking read of 12:",
         decide::decide_blocking_read(true, l, 12),
-    );
+    )
 }
 
-pub fn run() {
-    print::plan(b"P7 credit 170:", seeded(170));
-    print::plan(b"P8 credit 171:", seeded(171));
-    print::plan(b"P9 credit 256:", seeded(256));
+pub fn run(rt: &impl Print) -> io::Result<()> {
+    print::plan(rt, "P7 credit 170:", seeded(170))?;
+    print::plan(rt, "P8 credit 171:", seeded(171))?;
+    print::plan(rt, "P9 credit 256:", seeded(256))?;
     let much = seeded(4096);
-    print::plan(b"P10 credit 4096:", much);
-    blocking(much);
-    reads(seeded(256));
-    new_device();
-    at_the_bound();
+    print::plan(rt, "P10 credit 4096:", much)?;
+    blocking(rt, much)?;
+    reads(rt, seeded(256))?;
+    new_device(rt)?;
+    at_the_bound(rt)
 }

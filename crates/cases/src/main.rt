@@ -8,7 +8,9 @@ mod calls;
 mod print;
 mod sums;
 
-fn main() {
-    sums::run();
-    calls::run();
+use std::io;
+
+fn main(rt: HostRuntime) -> io::Result<()> {
+    sums::run(&rt)?;
+    calls::run(&rt)
 }

@@ -1,41 +1,40 @@
 // Text on standard output.
 use ledger::Plan;
-use libc::STDOUT_FILENO;
+use std::io;
 
-pub fn label(text: &[u8]) {
-    io::write_all(STDOUT_FILENO, text);
+pub fn label(rt: &impl Print, text: &str) -> io::Result<()> {
+    print!(rt; "{text}")
 }
 
 // A number after a space.
-pub fn number(x: u64) {
-    io::write_all(STDOUT_FILENO, b" ");
-    io::print_decimal(STDOUT_FILENO, x);
+pub fn number(rt: &impl Print, x: u64) -> io::Result<()> {
+    print!(rt; " {x}")
 }
 
-pub fn end_line() {
-    io::write_all(STDOUT_FILENO, b"\n");
+pub fn end_line(rt: &impl Print) -> io::Result<()> {
+    println!(rt; "")
 }
 
-fn word(x: u32) {
-    number(x as u64);
+fn word(rt: &impl Print, x: u32) -> io::Result<()> {
+    number(rt, x as u64)
 }
 
 // Bytes from one of two places.
-fn both(a: u32, b: u32) {
-    number(a as u64 + b as u64);
+fn both(rt: &impl Print, a: u32, b: u32) -> io::Result<()> {
+    number(rt, a as u64 + b as u64)
 }
 
 // What a plan comes to.
-pub fn plan(text: &[u8], p: Plan) {
-    label(text);
-    word(p.number);
-    both(p.deliver, p.stream);
-    word(p.ledger.input.count);
-    word(p.ledger.blocking.count);
-    number(decide::stream_blocks(p.stream));
-    number(decide::compressions_run(p));
-    word(p.added);
-    word(p.ledger.seeding.mark);
-    word(p.reseed);
-    end_line();
+pub fn plan(rt: &impl Print, text: &str, p: Plan) -> io::Result<()> {
+    label(rt, text)?;
+    word(rt, p.number)?;
+    both(rt, p.deliver, p.stream)?;
+    word(rt, p.ledger.input.count)?;
+    word(rt, p.ledger.blocking.count)?;
+    number(rt, decide::stream_blocks(p.stream))?;
+    number(rt, decide::compressions_run(p))?;
+    word(rt, p.added)?;
+    word(rt, p.ledger.seeding.mark)?;
+    word(rt, p.reseed)?;
+    end_line(rt)
 }

@@ -7,7 +7,8 @@ ghost use Rattle.std.specs.Prelude.{◌≤◌, length};
 
 use crate::classes::{Class, read_class};
 use crate::clocks::{Clock, read_clock};
-use crate::messages::{no_class, no_clock, word_too_long};
+use crate::messages::{StandardError, no_class, no_clock, word_too_long};
+use std::rt::Env;
 
 const LONGEST_WORD: usize = 131072;
 
@@ -15,49 +16,47 @@ const LONGEST_WORD: usize = 131072;
 pub const LONGEST_FIELD: usize = LONGEST_WORD / 2;
 
 // The clock that argument i is.
-pub fn clock_at(i: usize) -> Clock {
+pub fn clock_at(rt: &(impl Env + StandardError), i: usize) -> Clock {
     let mut word = [0u8; LONGEST_WORD];
-    let n = os::arg(i, &mut word);
-    if os::errno() != 0 {
-        word_too_long();
+    let Ok(n) = rt.arg(i, &mut word) else {
+        word_too_long(rt);
         return Clock {
             good: false,
             value: 0,
         };
-    }
+    };
     let it = read_clock(&word[..n]);
     if !it.good {
-        no_clock(&word[..n]);
+        no_clock(rt, &word[..n]);
     }
     it
 }
 
 // The class that argument i is, and its field at the start of a room.
-pub fn class_at(i: usize, room: &mut [u8; LONGEST_FIELD]) -> Class
+pub fn class_at(rt: &(impl Env + StandardError), i: usize, room: &mut [u8; LONGEST_FIELD]) -> Class
     ensures { result.len ≤ length room.new }
 {
     let mut word = [0u8; LONGEST_WORD];
-    let n = os::arg(i, &mut word);
-    if os::errno() != 0 {
-        word_too_long();
+    let Ok(n) = rt.arg(i, &mut word) else {
+        word_too_long(rt);
         return Class {
             good: false,
             len: 0,
         };
-    }
+    };
     let it = read_class(&word[..n], &mut room[..]);
     if !it.good {
-        no_class(&word[..n]);
+        no_class(rt, &word[..n]);
     }
     it
 }
 
 // Whether all arguments from one on are classes. The first that is none is told.
-pub fn all_classes(first: usize, count: usize) -> bool {
+pub fn all_classes(rt: &(impl Env + StandardError), first: usize, count: usize) -> bool {
     let mut room = [0u8; LONGEST_FIELD];
     let mut i = first;
     while i < count {
-        let it = class_at(i, &mut room);
+        let it = class_at(rt, i, &mut room);
         if !it.good {
             return false;
         }

@@ -31,6 +31,6 @@ pub use converting::convert;
 pub use files::{MOST, bring};
 pub use indexing::index;
 pub use looking::look;
-pub use messages::{complain, wants};
+pub use messages::{StandardError, complain, wants};
 pub use output::{Sent, lay, write};
 pub use status::{FAILED, GOOD, ended, given, judge, tell, worse};

@@ -7,13 +7,14 @@ ghost use Rattle.lab.specs.Looks.{record_text, look_line};
 
 use crate::appending::{INDEX_MOST, roomed};
 use crate::files::{MOST, bring};
-use crate::messages::{no_number, wants};
+use crate::messages::{StandardError, no_number, wants};
 use crate::numbers::{number, zeros_before};
 use crate::output::{Sent, lay, write};
 use crate::status::{FAILED, GOOD, ended, given};
 use index::{NUMBERS, look_filed};
 use journal::{Found, carried, header, payload, read};
 use listing::{LONGEST_FOUND, found, gone};
+use std::rt::{Env, Files};
 
 // The most letters of a word that is a number, and the longest line of one.
 const WORD: usize = 256;
@@ -48,17 +49,24 @@ fn tell_line(j: &[u8], name: &[u8], answer: u32, place: u32, room: &mut [u8]) ->
 }
 
 // The line of the number that argument i is, written.
-fn tell_one(j: &[u8], i: usize, answer: u32, place: u32) -> Sent {
+fn tell_one(
+    rt: &(impl Env + Print + StandardError),
+    j: &[u8],
+    i: usize,
+    answer: u32,
+    place: u32,
+) -> Sent {
     let mut word = [0u8; WORD];
-    let n = os::arg(i, &mut word);
+    let n = rt.arg(i, &mut word).unwrap_or(0);
     let z = zeros_before(&word[..n]);
     let mut room = [0u8; LINE];
     let m = tell_line(j, &word[z..n], answer, place, &mut room);
-    write(&room[..m])
+    write(rt, &room[..m])
 }
 
 // The lines of `count` numbers, the first of which is argument `first`, and the last line.
 fn tell_all(
+    rt: &(impl Env + Print + StandardError),
     j: &[u8],
     first: usize,
     count: usize,
@@ -69,7 +77,7 @@ fn tell_all(
 {
     let mut i: usize = 0;
     while i < count {
-        match tell_one(j, first + i, answers[i], places[i]) {
+        match tell_one(rt, j, first + i, answers[i], places[i]) {
             Sent::All => {
                 i += 1;
             }
@@ -81,7 +89,7 @@ fn tell_all(
             }
         }
     }
-    ended(0)
+    ended(rt, 0)
 }
 
 // One more number than a call takes: that there is one is enough to be refused.
@@ -98,17 +106,17 @@ fn keep(value: u32, at: usize, numbers: &mut [u32])
 
 // Reads the numbers that the arguments from one on are, the first 65 of them into a room. A word that is no number is told, and then it is
 // none of them.
-fn gather(first: usize, count: usize, numbers: &mut [u32]) -> bool
+fn gather(rt: &(impl Env + StandardError), first: usize, count: usize, numbers: &mut [u32]) -> bool
     requires { length numbers.old ≡ 65 }
     ensures { length numbers.new ≡ 65 }
 {
     let mut i: usize = first;
     while i < count {
         let mut word = [0u8; WORD];
-        let n = os::arg(i, &mut word);
+        let n = rt.arg(i, &mut word).unwrap_or(0);
         let it = number(&word[..n]);
         if !it.good {
-            no_number(&word[..n]);
+            no_number(rt, &word[..n]);
             return false;
         }
         keep(it.value, i - first, numbers);
@@ -123,7 +131,13 @@ fn at_most(n: usize) -> usize
     if n < SOME { n } else { SOME }
 }
 
-fn look_up(first: usize, j: &[u8], file: &[u8], numbers: &[u32]) -> u32
+fn look_up(
+    rt: &(impl Env + Print + StandardError),
+    first: usize,
+    j: &[u8],
+    file: &[u8],
+    numbers: &[u32],
+) -> u32
     requires { first + length numbers.now < 2 ^ 64 }
 {
     let room = roomed(j);
@@ -131,47 +145,53 @@ fn look_up(first: usize, j: &[u8], file: &[u8], numbers: &[u32]) -> u32
     let mut places = [0u32; NUMBERS];
     let refused = look_filed(&room, j.len(), file, numbers, &mut answers, &mut places);
     if refused != 0 {
-        return ended(refused);
+        return ended(rt, refused);
     }
-    tell_all(j, first, numbers.len(), &answers, &places)
+    tell_all(rt, j, first, numbers.len(), &answers, &places)
 }
 
-fn look_in(first: usize, j: &[u8], numbers: &[u32]) -> u32
+fn look_in(
+    rt: &(impl Env + Files + Print + StandardError),
+    first: usize,
+    j: &[u8],
+    numbers: &[u32],
+) -> u32
     requires { first + 2 + length numbers.now < 2 ^ 64 }
 {
     let mut room = [0u8; INDEX_MOST];
-    let f = bring(first + 1, &mut room);
+    let f = bring(rt, first + 1, &mut room);
     if !f.whole {
         return FAILED;
     }
     let n = f.count;
-    look_up(first + 2, j, &room[..n], numbers)
+    look_up(rt, first + 2, j, &room[..n], numbers)
 }
 
-fn look_for(first: usize, numbers: &[u32]) -> u32
+fn look_for(rt: &(impl Env + Files + Print + StandardError), first: usize, numbers: &[u32]) -> u32
     requires { first + 2 + length numbers.now < 2 ^ 64 }
 {
     let mut room = [0u8; MOST];
-    let f = bring(first, &mut room);
+    let f = bring(rt, first, &mut room);
     if !f.whole {
         return FAILED;
     }
     let n = f.count;
-    look_in(first, &room[..n], numbers)
+    look_in(rt, first, &room[..n], numbers)
 }
 
-pub fn look(first: usize, count: usize) -> u32 {
+pub fn look(rt: &(impl Env + Files + Print + StandardError), first: usize, count: usize) -> u32 {
     let many = given(first, count);
     if many < 3 {
         wants(
+            rt,
             b"nk: look wants a journal, its index and record numbers; nk --help says what there is\n",
         );
         return FAILED;
     }
     let mut numbers = [0u32; SOME];
-    if !gather(first + 2, count, &mut numbers) {
+    if !gather(rt, first + 2, count, &mut numbers) {
         return FAILED;
     }
     let n = at_most(many - 2);
-    look_for(first, &numbers[..n])
+    look_for(rt, first, &numbers[..n])
 }

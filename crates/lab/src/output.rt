@@ -2,7 +2,8 @@
 ghost use Rattle.std.specs.Prelude.{◌+◌, ◌≤◌, length, take};
 ghost use Rattle.transcript.specs.Text.{Put};
 
-use libc::STDOUT_FILENO;
+use crate::messages::{StandardError, fail};
+use std::io;
 
 // What came of writing to standard output.
 #[derive(Drop)]
@@ -13,15 +14,17 @@ pub enum Sent {
 }
 
 // Writes bytes to standard output. That a reader has gone is no error; anything else is told.
-pub fn write(bytes: &[u8]) -> Sent {
-    if io::write_all(STDOUT_FILENO, bytes) {
-        return Sent::All;
+pub fn write(rt: &(impl Print + StandardError), bytes: &[u8]) -> Sent {
+    match rt.write_all(bytes) {
+        Ok(()) => Sent::All,
+        Err(why) => {
+            if why.kind() == io::ErrorKind::BrokenPipe {
+                return Sent::NoReader;
+            }
+            fail(rt, b"nk: standard output", why);
+            Sent::Failed
+        }
     }
-    if os::errno() == libc::EPIPE {
-        return Sent::NoReader;
-    }
-    os::fail(b"nk: standard output");
-    Sent::Failed
 }
 
 // Lays the first n bytes of a line into a room at a place, and answers the place after them.

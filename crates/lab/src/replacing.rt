@@ -1,8 +1,13 @@
 // Files replaced whole or not at all: a file is made beside its place, written, flushed, and renamed over it.
 ghost use Rattle.std.specs.Prelude.{◌≡◌, ◌≤◌, length};
 
+use crate::files::path;
 use crate::messages;
-use crate::messages::about;
+use crate::messages::{StandardError, about, fail};
+use std::fs::{OpenFile, OpenOptions};
+use std::io::Write;
+use std::rt::{Env, Files};
+use std::{fs, io};
 
 // `nk: `, a file's name, and room for what is put behind the name.
 const SAID: usize = 4104;
@@ -17,11 +22,11 @@ fn opening() -> [u8; SAID] {
 }
 
 // The name of the file that argument i is, with four letters behind it, laid behind `nk: `. Answers how long that is.
-fn beside(i: usize, letters: &[u8; 4], said: &mut [u8]) -> usize
+fn beside(rt: &impl Env, i: usize, letters: &[u8; 4], said: &mut [u8]) -> usize
     requires { length said.old ≡ 4104 }
     ensures { (8 ≤ result) × (result ≤ length said.new) }
 {
-    let n = 4 + os::arg(i, &mut said[4..4100]);
+    let n = 4 + rt.arg(i, &mut said[4..4100]).unwrap_or(0);
     said[n] = letters[0];
     said[n + 1] = letters[1];
     said[n + 2] = letters[2];
@@ -29,100 +34,127 @@ fn beside(i: usize, letters: &[u8; 4], said: &mut [u8]) -> usize
     n + 4
 }
 
+// A new file, which must not be there yet.
+fn create<R: Files>(rt: &R, name: &[u8]) -> io::Result<R::File> {
+    OpenOptions::new()
+        .write(true)
+        .create_new(true)
+        .open(rt, path(name)?)
+}
+
 // Writes bytes and waits until they have reached the device.
-fn write_whole(fd: i32, bytes: &[u8]) -> bool {
-    if !io::write_all(fd, bytes) {
-        return false;
-    }
-    libc::fsync(fd) == 0
+fn write_whole(file: &mut (impl Write + OpenFile), bytes: &[u8]) -> io::Result<()> {
+    file.write_all(bytes)?;
+    file.sync_all()
+}
+
+fn remove(rt: &impl Files, name: &[u8]) -> io::Result<()> {
+    fs::remove_file(rt, path(name)?)
+}
+
+fn rename(rt: &impl Files, from: &[u8], to: &[u8]) -> io::Result<()> {
+    fs::rename(rt, path(from)?, path(to)?)
 }
 
 // Makes a file beside the one that argument i names, and writes it whole. Where that fails there is none, and it is told.
-pub fn make_beside(i: usize, letters: &[u8; 4], bytes: &[u8]) -> bool {
+pub fn make_beside(
+    rt: &(impl Env + Files + StandardError),
+    i: usize,
+    letters: &[u8; 4],
+    bytes: &[u8],
+) -> bool {
     let mut said = opening();
-    let n = beside(i, letters, &mut said);
-    let fd = os::create(&said[4..n]);
-    if fd < 0 {
-        os::fail(&said[..n]);
-        return false;
-    }
-    let whole = write_whole(fd, bytes);
-    if !whole {
-        os::fail(&said[..n]);
-    }
-    let closed = libc::close(fd) == 0;
-    if whole {
-        if closed {
-            return true;
+    let n = beside(rt, i, letters, &mut said);
+    let mut file = match create(rt, &said[4..n]) {
+        Ok(file) => file,
+        Err(why) => {
+            fail(rt, &said[..n], why);
+            return false;
         }
-        os::fail(&said[..n]);
+    };
+    let written = write_whole(&mut file, bytes);
+    drop(file);
+    match written {
+        Ok(()) => true,
+        Err(why) => {
+            fail(rt, &said[..n], why);
+            let _ = remove(rt, &said[4..n]);
+            false
+        }
     }
-    os::unlink(&said[4..n]);
-    false
 }
 
 // Renames the file that was made beside another over it.
-pub fn put_in_place(i: usize, letters: &[u8; 4]) -> bool {
+pub fn put_in_place(rt: &(impl Env + Files + StandardError), i: usize, letters: &[u8; 4]) -> bool {
     let mut said = opening();
-    let n = beside(i, letters, &mut said);
+    let n = beside(rt, i, letters, &mut said);
     let mut place = messages::opening();
-    let m = about(i, &mut place);
-    if os::rename(&said[4..n], &place[4..m]) == 0 {
-        return true;
+    let m = about(rt, i, &mut place).unwrap_or(4);
+    match rename(rt, &said[4..n], &place[4..m]) {
+        Ok(()) => true,
+        Err(why) => {
+            fail(rt, &place[..m], why);
+            false
+        }
     }
-    os::fail(&place[..m]);
-    false
 }
 
 // Takes a file away that was made beside another.
-pub fn take_away(i: usize, letters: &[u8; 4]) {
+pub fn take_away(rt: &(impl Env + Files), i: usize, letters: &[u8; 4]) {
     let mut said = opening();
-    let n = beside(i, letters, &mut said);
-    os::unlink(&said[4..n]);
+    let n = beside(rt, i, letters, &mut said);
+    let _ = remove(rt, &said[4..n]);
 }
 
 // Replaces the file that argument i names.
-pub fn replace(i: usize, bytes: &[u8]) -> bool {
-    if !make_beside(i, b".new", bytes) {
+pub fn replace(rt: &(impl Env + Files + StandardError), i: usize, bytes: &[u8]) -> bool {
+    if !make_beside(rt, i, b".new", bytes) {
         return false;
     }
-    if put_in_place(i, b".new") {
+    if put_in_place(rt, i, b".new") {
         return true;
     }
-    take_away(i, b".new");
+    take_away(rt, i, b".new");
     false
 }
 
 // Replaces the files that arguments i and k name, both or neither. The bytes that the second has are made beside it too: where the first
 // cannot be put in its place, they are put back.
-pub fn replace_both(i: usize, bytes: &[u8], k: usize, others: &[u8], before: &[u8]) -> bool {
-    if !make_beside(i, b".new", bytes) {
+pub fn replace_both(
+    rt: &(impl Env + Files + StandardError),
+    i: usize,
+    bytes: &[u8],
+    k: usize,
+    others: &[u8],
+    before: &[u8],
+) -> bool {
+    if !make_beside(rt, i, b".new", bytes) {
         return false;
     }
-    if !make_beside(k, b".new", others) {
-        take_away(i, b".new");
+    if !make_beside(rt, k, b".new", others) {
+        take_away(rt, i, b".new");
         return false;
     }
-    if !make_beside(k, b".old", before) {
-        take_away(i, b".new");
-        take_away(k, b".new");
+    if !make_beside(rt, k, b".old", before) {
+        take_away(rt, i, b".new");
+        take_away(rt, k, b".new");
         return false;
     }
-    swap(i, k)
+    swap(rt, i, k)
 }
 
-fn swap(i: usize, k: usize) -> bool {
-    if !put_in_place(k, b".new") {
-        take_away(i, b".new");
-        take_away(k, b".new");
-        take_away(k, b".old");
+fn swap(rt: &(impl Env + Files + StandardError), i: usize, k: usize) -> bool {
+    if !put_in_place(rt, k, b".new") {
+        take_away(rt, i, b".new");
+        take_away(rt, k, b".new");
+        take_away(rt, k, b".old");
         return false;
     }
-    if put_in_place(i, b".new") {
-        take_away(k, b".old");
+    if put_in_place(rt, i, b".new") {
+        take_away(rt, k, b".old");
         return true;
     }
-    take_away(i, b".new");
-    put_in_place(k, b".old");
+    take_away(rt, i, b".new");
+    put_in_place(rt, k, b".old");
     false
 }

@@ -16,6 +16,6 @@ mod message_numbers;
 mod messages;
 mod replaying;
 
-fn main() {
-    arguments::obey();
+fn main(rt: HostRuntime) {
+    arguments::obey(&rt);
 }

@@ -5,12 +5,13 @@
 use desk::DESK_BYTES;
 use journal::scan;
 use lab::{
-    FAILED, GOOD, LONGEST_FIELD, MOST, Sent, all_classes, bring, class_at, clock_at, ended, given,
-    wants, write,
+    FAILED, GOOD, LONGEST_FIELD, MOST, Sent, StandardError, all_classes, bring, class_at, clock_at,
+    ended, given, wants, write,
 };
 use ledger::Ledger;
 use ledger::sizes::{BLOCKING_WORDS, DEVICES, FAST_WORDS, GENERATOR_WORDS, INPUT_WORDS};
 use numbering::{LONGEST_ISSUED, number_line, replay_on};
+use std::rt::{Env, Files};
 use steps::fresh_ledger;
 
 // What one number leaves besides what was lent: the ledger, and what came of writing the line.
@@ -23,6 +24,7 @@ struct Told {
 // The number for the class that argument i is, and its line written. The word was judged before; where it is none all the same, nothing is
 // issued for it.
 fn issue_one(
+    rt: &(impl Env + Print + StandardError),
     i: usize,
     l: Ledger,
     firsts: &[i64; DEVICES],
@@ -35,7 +37,7 @@ fn issue_one(
     at: u32,
 ) -> Told {
     let mut field = [0u8; LONGEST_FIELD];
-    let it = class_at(i, &mut field);
+    let it = class_at(rt, i, &mut field);
     if !it.good {
         return Told {
             ledger: l,
@@ -58,7 +60,7 @@ fn issue_one(
         &mut line,
     );
     let m = d.len;
-    let sent = write(&line[..m]);
+    let sent = write(rt, &line[..m]);
     let after = d.ledger;
     Told {
         ledger: after,
@@ -67,7 +69,13 @@ fn issue_one(
 }
 
 // A number for each of the arguments from one on, behind a journal that ends with 0; and the last line. The desk is empty at first.
-fn issue_all(j: &[u8], at: u32, first: usize, end: usize) -> u32 {
+fn issue_all(
+    rt: &(impl Env + Print + StandardError),
+    j: &[u8],
+    at: u32,
+    first: usize,
+    end: usize,
+) -> u32 {
     let mut clocks = [0u32; DEVICES];
     let mut firsts = [0i64; DEVICES];
     let mut seconds = [0i64; DEVICES];
@@ -93,6 +101,7 @@ fn issue_all(j: &[u8], at: u32, first: usize, end: usize) -> u32 {
     let mut i = first;
     while i < end {
         let it = issue_one(
+            rt,
             i,
             l,
             &firsts,
@@ -119,35 +128,44 @@ fn issue_all(j: &[u8], at: u32, first: usize, end: usize) -> u32 {
             }
         }
     }
-    ended(0)
+    ended(rt, 0)
 }
 
 // A journal that does not end with 0 has its number told, and nothing is issued.
-fn issue_behind(j: &[u8], at: u32, first: usize, end: usize) -> u32 {
+fn issue_behind(
+    rt: &(impl Env + Print + StandardError),
+    j: &[u8],
+    at: u32,
+    first: usize,
+    end: usize,
+) -> u32 {
     let number = scan(j);
     if number != 0 {
-        return ended(number);
+        return ended(rt, number);
     }
-    issue_all(j, at, first, end)
+    issue_all(rt, j, at, first, end)
 }
 
-pub fn issue(first: usize, end: usize) -> u32 {
+pub fn issue(rt: &(impl Env + Files + Print + StandardError), first: usize, end: usize) -> u32 {
     if given(first, end) < 3 {
-        wants(b"nk: issue wants a journal, a clock and classes; nk --help says what there is\n");
+        wants(
+            rt,
+            b"nk: issue wants a journal, a clock and classes; nk --help says what there is\n",
+        );
         return FAILED;
     }
-    let clock = clock_at(first + 1);
+    let clock = clock_at(rt, first + 1);
     if !clock.good {
         return FAILED;
     }
-    if !all_classes(first + 2, end) {
+    if !all_classes(rt, first + 2, end) {
         return FAILED;
     }
     let mut room = [0u8; MOST];
-    let f = bring(first, &mut room);
+    let f = bring(rt, first, &mut room);
     if !f.whole {
         return FAILED;
     }
     let n = f.count;
-    issue_behind(&room[..n], clock.value, first + 2, end)
+    issue_behind(rt, &room[..n], clock.value, first + 2, end)
 }

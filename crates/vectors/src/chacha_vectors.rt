@@ -1,5 +1,6 @@
 // RFC 7539: the quarter round (2.1.1, 2.2.1), the block function (2.3.2) and the five blocks of appendix A.1.
 use crate::print;
+use std::io;
 
 // The state of section 2.3: the four constants, the key, the counter and the nonce.
 fn state(key: [u32; 8], counter: u32, nonce: [u32; 3]) -> [u32; 16] {
@@ -23,9 +24,9 @@ fn state(key: [u32; 8], counter: u32, nonce: [u32; 3]) -> [u32; 16] {
     ]
 }
 
-fn quarter_rounds() {
+fn quarter_rounds(rt: &impl Print) -> io::Result<()> {
     let a = chacha::quarter(0x1111_1111, 0x0102_0304, 0x9b8d_6f43, 0x0123_4567);
-    print::words(b"RFC 7539 2.1.1 quarter round:", &[a.a, a.b, a.c, a.d]);
+    print::words(rt, "RFC 7539 2.1.1 quarter round:", &[a.a, a.b, a.c, a.d])?;
     let sixteen = [
         0x8795_31e0,
         0xc5ec_f37d,
@@ -50,30 +51,30 @@ fn quarter_rounds() {
     b[7] = q.b;
     b[8] = q.c;
     b[13] = q.d;
-    print::words(b"RFC 7539 2.2.1 quarter round (2, 7, 8, 13):", &b);
+    print::words(rt, "RFC 7539 2.2.1 quarter round (2, 7, 8, 13):", &b)
 }
 
 // The block of a state, as it lies in a room.
-fn block(label: &[u8], s: [u32; 16]) {
+fn block(rt: &impl Print, label: &str, s: [u32; 16]) -> io::Result<()> {
     let mut room = [0u8; 64];
     chacha::lay_block(&s, &mut room);
-    print::bytes(label, &room);
+    print::bytes(rt, label, &room)
 }
 
 // The words of a block, and its bytes in a room that is too short and in one that is too long.
-fn rooms(s: [u32; 16]) {
+fn rooms(rt: &impl Print, s: [u32; 16]) -> io::Result<()> {
     let b = chacha::block(s);
-    print::words(b"RFC 7539 2.3.2 words:", &b);
+    print::words(rt, "RFC 7539 2.3.2 words:", &b)?;
     let mut short = [0xeeu8; 10];
     chacha::lay_block(&s, &mut short);
-    print::bytes(b"RFC 7539 2.3.2 in a room of 10: ", &short);
+    print::bytes(rt, "RFC 7539 2.3.2 in a room of 10: ", &short)?;
     let mut long = [0xeeu8; 70];
     chacha::lay_block(&s, &mut long);
-    print::bytes(b"RFC 7539 2.3.2 in a room of 70: ", &long);
+    print::bytes(rt, "RFC 7539 2.3.2 in a room of 70: ", &long)
 }
 
-pub fn run() {
-    quarter_rounds();
+pub fn run(rt: &impl Print) -> io::Result<()> {
+    quarter_rounds(rt)?;
     let counting = [
         0x0302_0100,
         0x0706_0504,
@@ -87,17 +88,19 @@ pub fn run() {
     let zero = [0u32; 8];
     let none = [0u32; 3];
     let section = state(counting, 1, [0x0900_0000, 0x4a00_0000, 0]);
-    block(b"RFC 7539 2.3.2: ", section);
-    rooms(section);
-    block(b"RFC 7539 A.1 #1: ", state(zero, 0, none));
-    block(b"RFC 7539 A.1 #2: ", state(zero, 1, none));
+    block(rt, "RFC 7539 2.3.2: ", section)?;
+    rooms(rt, section)?;
+    block(rt, "RFC 7539 A.1 #1: ", state(zero, 0, none))?;
+    block(rt, "RFC 7539 A.1 #2: ", state(zero, 1, none))?;
     block(
-        b"RFC 7539 A.1 #3: ",
+        rt,
+        "RFC 7539 A.1 #3: ",
         state([0, 0, 0, 0, 0, 0, 0, 0x0100_0000], 1, none),
-    );
+    )?;
     block(
-        b"RFC 7539 A.1 #4: ",
+        rt,
+        "RFC 7539 A.1 #4: ",
         state([0x0000_ff00, 0, 0, 0, 0, 0, 0, 0], 2, none),
-    );
-    block(b"RFC 7539 A.1 #5: ", state(zero, 0, [0, 0, 0x0200_0000]));
+    )?;
+    block(rt, "RFC 7539 A.1 #5: ", state(zero, 0, [0, 0, 0x0200_0000]))
 }

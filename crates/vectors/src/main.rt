@@ -7,8 +7,10 @@ mod print;
 mod sha1_vectors;
 mod word_vectors;
 
-fn main() {
-    word_vectors::run();
-    chacha_vectors::run();
-    sha1_vectors::run();
+use std::io;
+
+fn main(rt: HostRuntime) -> io::Result<()> {
+    word_vectors::run(&rt)?;
+    chacha_vectors::run(&rt)?;
+    sha1_vectors::run(&rt)
 }

@@ -1,40 +1,25 @@
 // Lines of text on standard output: a label, then what belongs to it in hexadecimal.
-use libc::STDOUT_FILENO;
-
-fn word(x: u32) {
-    io::write_all(STDOUT_FILENO, b" ");
-    io::print_hex(STDOUT_FILENO, x as u64, 8);
-}
-
-fn byte(x: u8) {
-    io::print_hex(STDOUT_FILENO, x as u64, 2);
-}
+use std::io;
 
 // A line of words, each after a space.
-pub fn words(label: &[u8], ws: &[u32]) {
-    io::write_all(STDOUT_FILENO, label);
-    let mut i: usize = 0;
-    while i < ws.len() {
-        word(ws[i]);
-        i += 1;
+pub fn words(rt: &impl Print, label: &str, ws: &[u32]) -> io::Result<()> {
+    print!(rt; "{label}")?;
+    for w in ws {
+        print!(rt; " {w:08x}")?;
     }
-    io::write_all(STDOUT_FILENO, b"\n");
+    println!(rt; "")
 }
 
 // A line of bytes, in one run.
-pub fn bytes(label: &[u8], bs: &[u8]) {
-    io::write_all(STDOUT_FILENO, label);
-    let mut i: usize = 0;
-    while i < bs.len() {
-        byte(bs[i]);
-        i += 1;
+pub fn bytes(rt: &impl Print, label: &str, bs: &[u8]) -> io::Result<()> {
+    print!(rt; "{label}")?;
+    for b in bs {
+        print!(rt; "{b:02x}")?;
     }
-    io::write_all(STDOUT_FILENO, b"\n");
+    println!(rt; "")
 }
 
 // A line with one number.
-pub fn number(label: &[u8], x: u64) {
-    io::write_all(STDOUT_FILENO, label);
-    io::print_hex(STDOUT_FILENO, x, 1);
-    io::write_all(STDOUT_FILENO, b"\n");
+pub fn number(rt: &impl Print, label: &str, x: u64) -> io::Result<()> {
+    println!(rt; "{label}{x:x}")
 }

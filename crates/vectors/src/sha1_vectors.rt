@@ -1,14 +1,15 @@
 // SHA-1's published messages through the compression. The padding of FIPS 180-4, section 5.1.1, is made here by hand: the message
 // big endian, one bit, zeros, and the length in bits as the last word.
 use crate::print;
+use std::io;
 
-pub fn run() {
+pub fn run(rt: &impl Print) -> io::Result<()> {
     let start = secure_hash::initial_hash();
-    print::words(b"FIPS 180-4 5.3.1 initial hash:", &start);
+    print::words(rt, "FIPS 180-4 5.3.1 initial hash:", &start)?;
     let none = [0x8000_0000, 0, 0, 0, 0, 0, 0, 0, 0, 0, 0, 0, 0, 0, 0, 0];
-    print::words(b"SHA-1 of no byte:", &secure_hash::compress(start, none));
+    print::words(rt, "SHA-1 of no byte:", &secure_hash::compress(start, none))?;
     let abc = [0x6162_6380, 0, 0, 0, 0, 0, 0, 0, 0, 0, 0, 0, 0, 0, 0, 24];
-    print::words(b"SHA-1 of abc:", &secure_hash::compress(start, abc));
+    print::words(rt, "SHA-1 of abc:", &secure_hash::compress(start, abc))?;
     let long = [
         0x6162_6364,
         0x6263_6465,
@@ -28,10 +29,11 @@ pub fn run() {
         0,
     ];
     let first = secure_hash::compress(start, long);
-    print::words(b"SHA-1 of abcdbcde..nopq after one block:", &first);
+    print::words(rt, "SHA-1 of abcdbcde..nopq after one block:", &first)?;
     let rest = [0, 0, 0, 0, 0, 0, 0, 0, 0, 0, 0, 0, 0, 0, 0, 448];
     print::words(
-        b"SHA-1 of abcdbcde..nopq:",
+        rt,
+        "SHA-1 of abcdbcde..nopq:",
         &secure_hash::compress(first, rest),
-    );
+    )
 }

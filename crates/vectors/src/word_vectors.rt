@@ -1,35 +1,38 @@
 // Rotation and byte order, at the ends of their ranges and in between.
 use crate::print;
+use std::io;
 
-fn rotations() {
+fn rotations(rt: &impl Print) -> io::Result<()> {
     print::words(
-        b"words 80000001 rotated by 0, 1, 31, 32:",
+        rt,
+        "words 80000001 rotated by 0, 1, 31, 32:",
         &[
             words::rotate_left(0x8000_0001, 0),
             words::rotate_left(0x8000_0001, 1),
             words::rotate_left(0x8000_0001, 31),
             words::rotate_left(0x8000_0001, 32),
         ],
-    );
+    )
 }
 
-fn layout() {
+fn layout(rt: &impl Print) -> io::Result<()> {
     let two = words::bytes_of_u16(0x0123);
-    print::bytes(b"words bytes of the 16 bits 123: ", &two);
-    print::number(b"words and back: ", words::u16_of_bytes(two) as u64);
+    print::bytes(rt, "words bytes of the 16 bits 123: ", &two)?;
+    print::number(rt, "words and back: ", words::u16_of_bytes(two) as u64)?;
     let four = words::bytes_of_u32(0x0123_4567);
-    print::bytes(b"words bytes of the 32 bits 1234567: ", &four);
-    print::number(b"words and back: ", words::u32_of_bytes(four) as u64);
+    print::bytes(rt, "words bytes of the 32 bits 1234567: ", &four)?;
+    print::number(rt, "words and back: ", words::u32_of_bytes(four) as u64)?;
     let eight = words::bytes_of_u64(0x0123_4567_89ab_cdef);
-    print::bytes(b"words bytes of the 64 bits 123456789abcdef: ", &eight);
-    print::number(b"words and back: ", words::u64_of_bytes(eight));
+    print::bytes(rt, "words bytes of the 64 bits 123456789abcdef: ", &eight)?;
+    print::number(rt, "words and back: ", words::u64_of_bytes(eight))?;
     print::number(
-        b"words 1234567 with its bytes swapped: ",
+        rt,
+        "words 1234567 with its bytes swapped: ",
         words::swap_bytes(0x0123_4567) as u64,
-    );
+    )
 }
 
-pub fn run() {
-    rotations();
-    layout();
+pub fn run(rt: &impl Print) -> io::Result<()> {
+    rotations(rt)?;
+    layout(rt)
 }

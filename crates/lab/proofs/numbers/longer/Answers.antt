@@ -1,0 +1,15 @@
+use mathlib.Core.Path.{◌≡◌, refl}
+use native.Mathlib.Omega.{arith}
+use borrow.Author.Tests.{lt-ltb, le-ltb}
+use Rattle.ledger.specs.Choice.{pick}
+use Rattle.lab.specs.Numbers.{onward}
+use borrow.Author.Rules.{rules}
+use Rattle.lab.proofs.numbers.longer.Goals as goal
+
+pub returns-then-value-lt-ENOUGH : goal.returns-then-value-lt-ENOUGH
+unfolding onward pick
+returns-then-value-lt-ENOUGH c = (rw (lt-ltb c.args.value 100000 c.if-value-lt-ENOUGH.true) refl, omega arith)
+
+pub returns : goal.returns
+unfolding onward pick
+returns c = (rw (le-ltb c.args.value 100000 c.if-value-lt-ENOUGH.false) refl, omega arith)
