@@ -81,8 +81,7 @@ fn write_out(j: &[u8], room: &mut [u8]) -> usize
 }
 
 // Writes a journal of version 1 as one of version 2, at the start of the room.
-#[unsafe(no_mangle)]
-pub extern "C" fn nk_convert(j: &[u8], room: &mut [u8]) -> Converted
+pub fn nk_convert(j: &[u8], room: &mut [u8]) -> Converted
     ensures value { result ≡ converted_of j.now (length room.old) }
     ensures room_after { room.new ≡ room_after j.now room.old }
 {

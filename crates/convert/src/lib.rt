@@ -1,4 +1,4 @@
-// Journals of version 1 written as version 2, whose events have two bytes for the device: for C `nk_convert`.
+// Journals of version 1 written as version 2, whose events have two bytes for the device: `nk_convert`.
 //
 // `judging` goes over the journal once, and finds out all that the refusals need; `converting` has the refusals in their order, and writes the
 // outcome record by record. Nothing is copied but into the room, and nothing is written before the last test has passed.

@@ -119,13 +119,7 @@ fn append_in(room: &mut [u8], len: usize, index: Index, more: &[u8]) -> Appended
 }
 
 // Appends bytes to the journal that a room's first `len` bytes are, and to its index.
-#[unsafe(no_mangle)]
-pub extern "C" fn nk_append(
-    room: &mut [u8; LARGEST],
-    len: usize,
-    index: Index,
-    more: &[u8],
-) -> Appended
+pub fn nk_append(room: &mut [u8; LARGEST], len: usize, index: Index, more: &[u8]) -> Appended
     ensures value { result ≡ appended (append_refused (agrees index room.old len) room.old len more.now) room.old len index more.now }
     ensures room_after { room.new ≡ room_after (append_refused (agrees index room.old len) room.old len more.now) room.old len more.now }
 {

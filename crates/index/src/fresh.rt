@@ -94,9 +94,8 @@ pub fn fresh_in(room: &[u8], len: usize) -> Fresh
     work_out(&room[..len])
 }
 
-// The same, for C.
-#[unsafe(no_mangle)]
-pub extern "C" fn nk_fresh_index(room: &[u8; LARGEST], len: usize) -> Fresh
+// The same of a room, as C lends one.
+pub fn nk_fresh_index(room: &[u8; LARGEST], len: usize) -> Fresh
     ensures { result ≡ fresh_in room.now len }
 {
     fresh_in(&room[..], len)

@@ -140,8 +140,7 @@ fn look_if(
 }
 
 // Looks up to 64 records up by their numbers in the journal that a room's first `len` bytes are: for each 0 and its place, or 18.
-#[unsafe(no_mangle)]
-pub extern "C" fn nk_look(
+pub fn nk_look(
     room: &[u8; LARGEST],
     len: usize,
     index: Index,
