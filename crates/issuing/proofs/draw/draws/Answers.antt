@@ -1,23 +1,10 @@
-use mathlib.Core.Path.{refl, sym, ap, ◌∙◌}
+use mathlib.Core.Path.{ap, ◌∙◌}
 use mathlib.Core.Bool.{true, false, not}
 use native.Mathlib.Omega.{arith}
 use lib.ListN.{length}
-use borrow.Author.Rules.{rules}
 use Rattle.keeper.proofs.Counter.{generated_keeps_length}
 use Rattle.issuing.proofs.Streams.{again, issues, no_more, at_start}
 use Rattle.issuing.proofs.draw.draws.Goals as goal
-
-pub loop-blocks-init : goal.loop-blocks-init
-loop-blocks-init c = (search rules, refl, search rules, refl)
-
-pub draw-number-requires : goal.draw-number-requires
-draw-number-requires c = c.loop-blocks.invariant.2
-
-pub slice_bounds-repeats-end-in-loop-blocks : goal.slice_bounds-repeats-end-in-loop-blocks
-slice_bounds-repeats-end-in-loop-blocks c = sym c.draw-number.ensures.result_len
-
-pub repeats-met-requires : goal.repeats-met-requires
-repeats-met-requires c = (search rules, c.draw-number.ensures.result_len)
 
 pub returns-then-not-met : goal.returns-then-not-met
 returns-then-not-met c = let new = at_start _ c.args.numbers.now c.loop-blocks.numbers c.args.count _ c.loop-blocks.invariant.1 c.repeats-met.ensures true (ap not c.if-not-met.true) in

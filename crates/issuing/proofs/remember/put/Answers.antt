@@ -1,4 +1,4 @@
-use mathlib.Core.Path.{◌≡◌, refl}
+use mathlib.Core.Path.{◌≡◌}
 use native.Mathlib.Numerals.{add-one}
 use native.Mathlib.Omega.{arith}
 use lib.ListN.{length}
@@ -6,9 +6,6 @@ use lib.Seq.{take-length}
 use Rattle.words.proofs.Rooms.{sets-suc}
 use borrow.Author.Rules.{rules}
 use Rattle.issuing.proofs.remember.put.Goals as goal
-
-pub loop-i-init : goal.loop-i-init
-loop-i-init c = (search rules, search rules, refl)
 
 pub loop-i-preserved : goal.loop-i-preserved
 loop-i-preserved c = (search rules, search rules, rw (add-one, c.loop-i.invariant.2) (sets-suc c.args.numbers.now c.args.from c.args.number c.loop-i.i (omega arith)))

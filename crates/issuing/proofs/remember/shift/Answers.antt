@@ -1,13 +1,10 @@
-use mathlib.Core.Path.{◌≡◌, refl}
+use mathlib.Core.Path.{◌≡◌}
 use native.Mathlib.Omega.{arith}
 use lib.ListN.{length, take, drop, length-drop}
 use lib.Seq.{take-length}
 use Rattle.issuing.proofs.Passes.{shifting}
 use borrow.Author.Rules.{rules}
 use Rattle.issuing.proofs.remember.shift.Goals as goal
-
-pub loop-i-init : goal.loop-i-init
-loop-i-init c = (search rules, search rules, refl)
 
 pub loop-i-preserved : goal.loop-i-preserved
 loop-i-preserved c = (search rules, search rules, rw c.loop-i.invariant.2 (shifting c.args.numbers.now c.loop-i.i (omega arith)))
