@@ -44,6 +44,9 @@ left_by k d (calls c ∷ more) (y ∷ xs) (called room {x} e r) =
     ap₂ ◌∷◌ (ap (beside d) e) (left_by x.keeper d more xs r ∙ ap (λ (z : Left). acts_leave z.keeper d more) e)
 left_by k d (asks now field ∷ more) (x ∷ xs) (asked e r) =
     ap₂ ◌∷◌ e (left_by x.keeper x.desk more xs r ∙ ap (λ (z : LeftWith). acts_leave z.keeper z.desk more) e)
+left_by k d [] (y ∷ xs) r = elim r [ ]
+left_by k d (calls c ∷ more) [] r = elim r [ ]
+left_by k d (asks now field ∷ more) [] r = elim r [ ]
 
 -- the keeper that a making gave, and the desk that remembers nothing
 begun : (k : Keeper) (start places : List ℕ) (m : Left) (acts : List Act) (xs : List LeftWith) → length start ≡ start_bytes → MadeAndIssued k start places m acts xs

@@ -1,6 +1,6 @@
 -- The one pass over the remembered numbers, the shift of a full desk, a number more, and the class byte.
 use mathlib.Core.Path.{◌≡◌, refl, sym, ap, ◌∙◌}
-use mathlib.Core.Bool.{Bool, true, false, ◌||◌, and-false, or_false, or_assoc}
+use mathlib.Core.Bool.{Bool, true, false, ◌||◌, and-false, or-false, or_assoc}
 use mathlib.Core.List.{List, [], ◌∷◌, ◌++◌, append-nil}
 use Prim.Native.Nat.{ℕ, zero, suc, ◌+◌, ◌*◌, ◌-◌, ◌≤◌, ◌<◌}
 use native.Mathlib.Numerals.{add-one}
@@ -37,7 +37,7 @@ one_number w n bs i h =
 
 pub no_number : (w : Bool) (n bs : List ℕ) (i : ℕ) → i ≡ 0 → (w || among n (numbers_in i bs)) ≡ w
 unfolding numbers_in among
-no_number w n bs i e = rw e (or_false w)
+no_number w n bs i e = rw e (or-false w)
 
 -- ---- the shift
 -- laying an item over the first of a rest
