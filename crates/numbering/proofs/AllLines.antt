@@ -41,6 +41,7 @@ all_lines k d now [] [] nothing = refl
 all_lines k d now (field ∷ fields) text (and_then {k' = k'} {d' = d'} {room = room} {room' = room'} {len = len} {text = more} h w on) =
     ap₂ ◌++◌ (front room room' _ len (omega (arith, h, w.fits)) w.line)
     (all_lines k' d' now fields more on ∙ (λ i. lines_for (w.keeper i) (w.desk i) now fields))
+all_lines k d now [] (x ∷ text) h = elim h [ ]
 
 -- a journal that ends with 0 has a good header
 abbrev ending : Walk → ℕ

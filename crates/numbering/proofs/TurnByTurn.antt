@@ -11,7 +11,7 @@ use Rattle.ledger.specs.Sizes.{start_bytes}
 use Rattle.ledger.specs.declared.Answer.{Answer}
 use Rattle.journal.specs.Header.{records_begin, header_of, version_of, start_of}
 use Rattle.journal.specs.Reading.{read_at}
-use Rattle.journal.specs.Walking.{Walk, walk}
+use Rattle.journal.specs.Walking.{Walk}
 use Rattle.journal.specs.declared.heading.Heading.{Heading}
 use Rattle.journal.specs.declared.records.Found.{Found}
 use Rattle.journal.specs.declared.records.Found.TheVariants.{One, Stop, End}
