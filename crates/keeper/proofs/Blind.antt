@@ -2,11 +2,10 @@
 -- their start bytes, and whatever the stamps, addresses and fed bytes of the calls.
 use mathlib.Core.Path.{◌≡◌, refl, sym, ap₂, ◌∙◌}
 use mathlib.Core.List.{List, [], ◌∷◌, map, head-eq_of_cons-eq, tail-eq_of_cons-eq}
-use Prim.Native.Nat.{ℕ, ◌+◌, ◌*◌}
+use Prim.Native.Nat.{ℕ}
 use native.Mathlib.Omega.{arith}
 use lib.ListN.{length}
 use Rattle.words.proofs.Numbers.{length-bytes_words_whole}
-use Rattle.ledger.specs.Range.{View}
 use Rattle.ledger.specs.Machine.{step_view}
 use Rattle.keeper.specs.Record.{fresh, view}
 use Rattle.keeper.specs.Calls.{Call, public}

@@ -9,7 +9,6 @@ use Rattle.ledger.specs.Shapes.{blocking_shape}
 use Rattle.ledger.specs.Marks.{Low}
 use Rattle.ledger.specs.PublicCalls.{blocking_read}
 use Rattle.ledger.specs.Plans.{plan_blocking_read, plan_call, decide}
-use Rattle.ledger.specs.Range.{View}
 use Rattle.ledger.specs.Machine.{planned, plan_at, step_view}
 use Rattle.ledger.specs.declared.Plan.{Plan}
 use Rattle.ledger.proofs.Picks.{pick_both}

@@ -1,6 +1,6 @@
 -- A plan that is carried out, shape by shape: what the record, the answer and the bytes are when it is over. What is used of a pool are its
 -- laws alone.
-use mathlib.Core.Path.{◌≡◌, refl, sym, ap, ap₂, ◌∙◌}
+use mathlib.Core.Path.{◌≡◌, ap, ap₂, ◌∙◌}
 use mathlib.Core.Bool.{false}
 use mathlib.Core.List.{List, [], ◌++◌, append-nil}
 use Prim.Native.Nat.{ℕ, ◌+◌}

@@ -1,15 +1,14 @@
 -- Demand 1: a call answered with anything but 0 leaves the whole record and the output room as they were, hands out nothing and
 -- reports no work; and so does a refused making.
 use mathlib.Core.Path.{◌≡◌, refl}
-use mathlib.Core.List.{List, []}
+use mathlib.Core.List.{List}
 use Prim.Native.Nat.{ℕ, ◌≤◌}
 use native.Mathlib.Omega.{arith}
-use lib.ListN.{length, drop, length-append, length-drop, length-take}
+use lib.ListN.{length, length-append, length-drop, length-take}
 use borrow.Author.Tests.{eq-eqb, ne_eqb}
 use Rattle.ledger.specs.Choice.{pick}
 use Rattle.ledger.specs.Shapes.{blocking_shape}
 use Rattle.ledger.specs.PublicCalls.{asked}
-use Rattle.ledger.specs.Range.{View}
 use Rattle.ledger.specs.Machine.{planned, plan_at, step_view}
 use Rattle.ledger.proofs.Still.{delivered_fits}
 use Rattle.ledger.proofs.Picks.{pick_both}

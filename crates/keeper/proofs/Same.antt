@@ -1,19 +1,19 @@
 -- The two tellings are one: the paper's order, step by step, and the plan that the secrets obey give the same keeper, the same answer
 -- and the same bytes, for every keeper and every call.
-use mathlib.Core.Path.{◌≡◌, refl, sym, ap, ap₂, ◌∙◌}
+use mathlib.Core.Path.{◌≡◌, refl, sym, ap, ◌∙◌}
 use mathlib.Core.Bool.{Bool, true, false, ◌&&◌, not}
-use mathlib.Core.List.{List, [], ◌∷◌, ◌++◌, append-nil}
-use Prim.Native.Nat.{ℕ, zero, suc, ◌+◌, ◌-◌, ◌*◌, ◌/◌, ◌%◌, ◌^◌, min, max}
+use mathlib.Core.List.{List, []}
+use Prim.Native.Nat.{ℕ, zero, suc, ◌+◌, ◌-◌, ◌*◌}
 use native.Mathlib.Omega.{arith}
-use lib.Dec.{ltb, leb, eqb}
-use lib.ListN.{length, set, take}
+use lib.Dec.{leb, eqb}
+use lib.ListN.{length}
 use borrow.Author.Tests.{ne_eqb}
 use Rattle.words.specs.Bytes.{bytes_words, words_bytes}
 use Rattle.ledger.specs.Choice.{pick}
 use Rattle.ledger.specs.Shapes.{input_shape, blocking_shape}
 use Rattle.ledger.specs.Credits.{credited, crediting, taken, debited, reseed_takes}
 use Rattle.ledger.specs.Clocks.{next_timer, event_bits}
-use Rattle.ledger.specs.Marks.{is_seeded, input_counts, blocking_counts, with_spots, valued, tallied, spilled, stays, reseed_due}
+use Rattle.ledger.specs.Marks.{is_seeded, input_counts, blocking_counts, with_spots, valued, tallied, spilled, reseed_due}
 use Rattle.ledger.specs.PublicCalls.{device_of}
 use Rattle.ledger.specs.Timers.{fresh_timer, kept}
 use Rattle.ledger.specs.Plans.{plan_of, idle, first_seeding, reseeding, feed, keeping, plan_event, plan_interrupt, plan_write, plan_seed, plan_read, transferred, refilled, plan_blocking_read, plan_call}
@@ -25,14 +25,13 @@ use Rattle.pool.specs.Mixing.{Pool, mix}
 use Rattle.pool.specs.Extracting.{Extract, extract}
 use Rattle.pool.proofs.Extracted.{laws, nothing}
 use Rattle.keeper.specs.FastPool.{stirred}
-use Rattle.keeper.specs.Generator.{xor_at, onto_key, Stream, stream, generated}
-use Rattle.keeper.specs.Record.{timers_in, device_timer, input_pool, blocking_pool, keeper_of, with_ledger, with_timer, with_input_pool, with_blocking_pool, with_fast, with_generator, view, fine, Outcome, refused, Run, reached, adding, finished}
+use Rattle.keeper.specs.Generator.{xor_at, onto_key, stream, generated}
+use Rattle.keeper.specs.Record.{timers_in, device_timer, input_pool, blocking_pool, keeper_of, with_ledger, with_timer, with_input_pool, with_fast, with_generator, view, Outcome, refused, Run, reached, adding, finished}
 use Rattle.keeper.specs.Calls.{Call, device_event, interrupted, written, seeded_with, generator_read, blocking_read_of, public, event_bytes, stirred_by, payload}
-use Rattle.keeper.specs.Narrative.{mix_input, recount_input, recount_blocking, debit_input, rekey, reseed, credit_input, event_call, interrupt_call, write_call, seed_call, generate, read_call, transfer, deliver, blocking_call, act, told}
+use Rattle.keeper.specs.Narrative.{mix_input, recount_input, debit_input, rekey, reseed, credit_input, event_call, interrupt_call, write_call, seed_call, generate, read_call, transfer, deliver, blocking_call, act, told}
 use Rattle.keeper.specs.Obey.{obey, step}
 use Rattle.keeper.specs.declared.Keeper.{Keeper}
 use Rattle.keeper.proofs.Carried.{streamed, rests_blocking, delivered, rests_generator, untouched}
-use Rattle.ledger.specs.declared.Answer.{Answer}
 
 -- ---- a plan that leaves both pools alone
 unfed : (c : Call) (p : Plan) (k : Keeper) → p.feeds ≡ false → p.reseed ≡ 0 → p.transfer ≡ 0 → p.deliver ≡ 0 → obey c p k ≡ streamed c p k (nothing (input_pool k))

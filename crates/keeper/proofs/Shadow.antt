@@ -1,27 +1,22 @@
 -- What a call shows is what the public machine gives, whatever the secrets are: pools' words, fast words, generator words, stamps,
 -- addresses and fed bytes.
-use mathlib.Core.Path.{◌≡◌, refl, ap, ap₂, ◌∙◌}
+use mathlib.Core.Path.{◌≡◌, refl, ap, ◌∙◌}
 use mathlib.Core.Bool.{Bool, true, false}
-use mathlib.Core.List.{List, [], ◌++◌}
-use Prim.Native.Nat.{ℕ, ◌+◌, ◌*◌}
-use lib.ListN.{length, take, length-append}
-use Rattle.words.specs.Bytes.{words_bytes}
+use mathlib.Core.List.{List, []}
+use Prim.Native.Nat.{ℕ}
+use lib.ListN.{length}
 use Rattle.ledger.specs.Choice.{pick}
 use Rattle.ledger.specs.Shapes.{Shape, input_shape, blocking_shape}
 use Rattle.ledger.specs.Places.{moved, extracted_from}
 use Rattle.ledger.specs.Marks.{with_spots}
-use Rattle.ledger.specs.PublicCalls.{PublicCall, brings, device_of}
-use Rattle.ledger.specs.Streams.{stream_blocks}
-use Rattle.ledger.specs.Plans.{compressions_run}
-use Rattle.ledger.specs.Range.{View}
+use Rattle.ledger.specs.PublicCalls.{brings, device_of}
 use Rattle.ledger.specs.Machine.{Shown, timers_after, input_moved, blocking_moved, planned, plan_at, step_view}
 use Rattle.ledger.specs.declared.Plan.{Plan}
 use Rattle.ledger.specs.declared.Spot.{Spot}
 use Rattle.pool.specs.Mixing.{Pool, mix}
 use Rattle.pool.specs.Extracting.{extract}
 use Rattle.pool.proofs.Extracted.{laws}
-use Rattle.keeper.specs.FastPool.{stirred}
-use Rattle.keeper.specs.Generator.{onto_key, generated}
+use Rattle.keeper.specs.Generator.{onto_key}
 use Rattle.keeper.specs.Record.{timers_in, input_pool, blocking_pool, view, Outcome}
 use Rattle.keeper.specs.Calls.{Call, device_event, interrupted, written, seeded_with, generator_read, blocking_read_of, public, stirred_by, payload}
 use Rattle.keeper.specs.Narrative.{told}

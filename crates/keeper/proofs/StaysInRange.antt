@@ -1,18 +1,16 @@
 -- A record in range stays in range, so no run from a fresh keeper is ever answered 17.
-use mathlib.Core.Path.{◌≡◌, refl, sym, ap, ◌∙◌}
-use mathlib.Core.Bool.{Bool, true, false}
+use mathlib.Core.Path.{◌≡◌}
+use mathlib.Core.Bool.{true}
 use mathlib.Core.List.{List, [], ◌∷◌}
 use Prim.Native.Nat.{ℕ, ◌≤◌}
 use native.Mathlib.Omega.{arith}
 use lib.ListN.{length}
-use Rattle.ledger.specs.Range.{View}
-use Rattle.ledger.specs.Machine.{Shown, step_view}
 use Rattle.ledger.proofs.InRange.{Fine, fine_in_range, step-fine, fresh-fine, fine_low}
 use Rattle.ledger.proofs.InRange.{fine as view-fine}
-use Rattle.keeper.specs.Record.{fresh, view, fine, Outcome}
+use Rattle.keeper.specs.Record.{fresh, view, fine}
 use Rattle.keeper.specs.Calls.{Call, public}
 use Rattle.keeper.specs.Narrative.{told}
-use Rattle.keeper.specs.Demands.{keeper_after, shown}
+use Rattle.keeper.specs.Demands.{keeper_after}
 use Rattle.keeper.specs.declared.Keeper.{Keeper}
 use Rattle.keeper.proofs.Shadow.{Whole, view_is, number_is, stays_whole}
 use Rattle.keeper.proofs.Blind.{fresh_whole}

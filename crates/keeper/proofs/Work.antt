@@ -1,17 +1,16 @@
 -- Work is real: of every call of every run from 48 start bytes, the ChaCha20 count is how far the counter moved, and the compressions are
 -- those of the blocks by which extraction moved the two pools.
-use mathlib.Core.Path.{◌≡◌, refl, sym, ap, ap₂, ◌∙◌}
+use mathlib.Core.Path.{◌≡◌, sym, ap, ◌∙◌}
 use mathlib.Core.List.{List, [], ◌∷◌}
-use Prim.Native.Nat.{ℕ, zero, suc, ◌+◌, ◌*◌, ◌%◌, ◌^◌, ◌<◌, ◌≤◌}
+use Prim.Native.Nat.{ℕ, zero, suc, ◌+◌, ◌%◌, ◌^◌, ◌≤◌}
 use native.Mathlib.Omega.{arith}
 use native.Mathlib.Nat.{zero-add, suc-add}
-use lib.ListN.{length, get_or}
+use lib.ListN.{length}
 use Rattle.words.proofs.Numbers.{bytes_words_lt}
 use Rattle.ledger.specs.Choice.{pick}
-use Rattle.ledger.specs.Shapes.{Shape, input_shape, blocking_shape}
+use Rattle.ledger.specs.Shapes.{Shape, input_shape}
 use Rattle.ledger.specs.Places.{moved, moved_blocks, blocks_of, extracted_from, costs}
-use Rattle.ledger.specs.PublicCalls.{PublicCall, brings}
-use Rattle.ledger.specs.Plans.{Small, decide}
+use Rattle.ledger.specs.Plans.{Small}
 use Rattle.ledger.specs.Range.{View}
 use Rattle.ledger.specs.Machine.{Shown, plan_at, input_moved, blocking_moved, planned, step_view}
 use Rattle.ledger.specs.declared.Plan.{Plan}
@@ -21,11 +20,11 @@ use Rattle.pool.specs.Mixing.{mix}
 use Rattle.pool.specs.Extracting.{extract}
 use Rattle.pool.proofs.Extracted.{laws}
 use Rattle.keeper.specs.Generator.{onto_key, generated}
-use Rattle.keeper.specs.Record.{input_pool, fresh, view, Outcome}
+use Rattle.keeper.specs.Record.{input_pool, fresh, view}
 use Rattle.keeper.specs.Calls.{Call, public, stirred_by, payload}
 use Rattle.keeper.specs.Narrative.{told}
 use Rattle.keeper.specs.Obey.{obey, step}
-use Rattle.keeper.specs.Work.{counter, input_blocks, blocking_blocks, Worked, AllWorked, StartBytes}
+use Rattle.keeper.specs.Work.{counter, Worked, AllWorked, StartBytes}
 use Rattle.keeper.specs.declared.Keeper.{Keeper}
 use Rattle.keeper.proofs.Counter.{Gen, key_counter, key_gen, generated-counter, generated_gen}
 use Rattle.keeper.proofs.Same.{same}

@@ -13,7 +13,7 @@ use Rattle.ledger.specs.declared.Answer.{Answer}
 use Rattle.ledger.proofs.Picks.{pick_both}
 use Rattle.ledger.proofs.Worth as Seen
 use Rattle.keeper.specs.Generator.{Stream}
-use Rattle.keeper.specs.Record.{view, Outcome}
+use Rattle.keeper.specs.Record.{view}
 use Rattle.keeper.specs.Calls.{Call, device_event, interrupted, written, seeded_with, generator_read, blocking_read_of, public}
 use Rattle.keeper.specs.Narrative.{told}
 use Rattle.keeper.specs.Obey.{obey, step}

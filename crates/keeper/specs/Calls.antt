@@ -1,5 +1,5 @@
 -- The calls, with all their fields.
-use Rattle.std.specs.Prelude.{ℕ, List, [], ◌∷◌, ◌++◌, length}
+use Rattle.std.specs.Prelude.{ℕ, List, [], ◌++◌, length}
 use Rattle.words.specs.Bytes.{le_bytes, words_bytes}
 use Rattle.ledger.specs.PublicCalls.{PublicCall, event, interrupt, write, seed, read, blocking_read}
 use Rattle.keeper.specs.FastPool.{stirred}

@@ -1,5 +1,5 @@
 -- The calls, told step by step in the paper's order, refusals first.
-use Rattle.std.specs.Prelude.{Bool, true, false, ◌&&◌, not, List, [], ◌∷◌, ◌++◌, ℕ, ◌+◌, ◌*◌, ltb, leb, eqb, length}
+use Rattle.std.specs.Prelude.{◌&&◌, not, List, ℕ, ◌+◌, ◌*◌, ltb, leb, eqb, length}
 use Rattle.words.specs.Bytes.{words_bytes}
 use Rattle.ledger.specs.Choice.{pick}
 use Rattle.ledger.specs.Sizes.{devices, longest}
@@ -9,10 +9,10 @@ use Rattle.ledger.specs.Credits.{crediting, taken, debited, reseed_takes, transf
 use Rattle.ledger.specs.Clocks.{next_timer, event_bits}
 use Rattle.ledger.specs.Marks.{is_seeded, input_counts, blocking_counts, seeded_at, valued, tallied, spilled, stays, reseed_due, is_low}
 use Rattle.ledger.specs.declared.Ledger.{Ledger}
-use Rattle.pool.specs.Mixing.{Pool, mix}
+use Rattle.pool.specs.Mixing.{mix}
 use Rattle.pool.specs.Extracting.{Extract, extract}
 use Rattle.keeper.specs.FastPool.{stirred}
-use Rattle.keeper.specs.Generator.{onto_key, Stream, generated}
+use Rattle.keeper.specs.Generator.{onto_key, generated}
 use Rattle.keeper.specs.Record.{input_pool, blocking_pool, device_timer, with_ledger, with_timer, with_input_pool, with_blocking_pool, with_fast, with_generator, fine, Outcome, refused, Run, reached, adding, finished}
 use Rattle.keeper.specs.Calls.{Call, device_event, interrupted, written, seeded_with, generator_read, blocking_read_of, event_bytes}
 use Rattle.keeper.specs.declared.Keeper.{Keeper}

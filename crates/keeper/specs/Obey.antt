@@ -1,5 +1,5 @@
 -- The calls in two strokes: the plan is decided from public numbers alone, and the secrets obey it.
-use Rattle.std.specs.Prelude.{List, [], ◌∷◌, ◌++◌, ℕ, ◌+◌, length}
+use Rattle.std.specs.Prelude.{List, [], ◌++◌, ℕ, ◌+◌, length}
 use Rattle.ledger.specs.Choice.{pick}
 use Rattle.ledger.specs.Shapes.{input_shape, blocking_shape}
 use Rattle.ledger.specs.Marks.{with_spots}

@@ -12,11 +12,10 @@ use Rattle.ledger.specs.Choice.{pick}
 use Rattle.ledger.specs.Credits.{turn_adds, credited, taken}
 use Rattle.ledger.specs.Marks.{is_low, Low}
 use Rattle.ledger.specs.PublicCalls.{blocking_read}
-use Rattle.ledger.specs.Plans.{transferred, refilled, plan_blocking_read, plan_call, decide}
+use Rattle.ledger.specs.Plans.{transferred, refilled, plan_blocking_read, plan_call}
 use Rattle.ledger.specs.Range.{View}
 use Rattle.ledger.specs.Machine.{planned, step_view}
 use Rattle.ledger.specs.declared.Ledger.{Ledger}
-use Rattle.ledger.specs.declared.Timer.{Timer}
 use Rattle.ledger.proofs.Picks.{and_left, and_right, both}
 use Rattle.ledger.proofs.Crediting.{further_grows, credited_grows}
 use Rattle.ledger.proofs.InRange.{Fine, fine_in_range, plan_at_is}

@@ -1,21 +1,21 @@
 -- A table of few timers shows what a longer one does: further devices that had no event have no say in any call on others. So what is computed
 -- of sixteen timers holds of any number of them, and no long list has to be computed.
 use mathlib.Core.Path.{◌≡◌, refl, sym, ap, ◌∙◌}
-use mathlib.Core.Bool.{Bool, true, false, ◌&&◌, ◌||◌, false≢true}
+use mathlib.Core.Bool.{Bool, true, false, ◌||◌, false≢true}
 use mathlib.Core.List.{List, [], ◌∷◌, ◌++◌}
-use Prim.Native.Nat.{ℕ, zero, suc, ◌+◌, ◌-◌, ◌<◌, ◌≤◌}
+use Prim.Native.Nat.{ℕ, zero, suc, ◌+◌, ◌<◌}
 use native.Mathlib.Omega.{arith}
-use lib.Dec.{ltb, leb, eqb}
-use lib.IntN.{ℤ, pos}
+use lib.Dec.{ltb, leb}
+use lib.IntN.{pos}
 use lib.ListN.{length, get_or, set, replicate, replicate-append-replicate}
 use borrow.Author.Tests.{ltb-true}
 use Rattle.ledger.specs.Choice.{pick}
 use Rattle.ledger.specs.Sizes.{devices}
-use Rattle.ledger.specs.Timers.{Timers, timers_of, fresh_timers, timer_of, kept}
+use Rattle.ledger.specs.Timers.{Timers, timers_of, timer_of, kept}
 use Rattle.ledger.specs.Range.{View, every, first_in_range, second_in_range, came_in_range, others_in_range}
 use Rattle.ledger.specs.PublicCalls.{PublicCall, event, interrupt, write, seed, read, blocking_read, device_of}
 use Rattle.ledger.specs.Plans.{plan_event, plan_call, decide}
-use Rattle.ledger.specs.Machine.{Shown, fresh_view, timers_after, view_under, planned, plan_at, step_view}
+use Rattle.ledger.specs.Machine.{fresh_view, timers_after, planned, plan_at, step_view}
 use Rattle.ledger.specs.declared.Ledger.{Ledger}
 use Rattle.ledger.specs.declared.Plan.{Plan}
 use Rattle.ledger.specs.declared.Timer.{Timer}

@@ -1,7 +1,7 @@
 -- What does not move: a call that is not answered 0 changes nothing that is public, reports no work and adds nothing, no call delivers
 -- more than was asked for, and a seeded keeper stays seeded.
 use mathlib.Core.Path.{◌≡◌, refl}
-use mathlib.Core.Bool.{Bool, true}
+use mathlib.Core.Bool.{Bool}
 use Prim.Native.Nat.{ℕ, ◌+◌, ◌≤◌}
 use native.Mathlib.Omega.{arith}
 use lib.Dec.{ltb}

@@ -14,7 +14,7 @@ use Rattle.ledger.specs.Marks.{is_seeded, valued, spilled, reseed_due}
 use Rattle.ledger.specs.Timers.{timer_of}
 use Rattle.ledger.specs.Range.{View}
 use Rattle.ledger.specs.PublicCalls.{PublicCall, event, interrupt, write, seed, read, blocking_read, device_of}
-use Rattle.ledger.specs.Plans.{idle, first_seeding, feed, transferred, refilled, plan_event, plan_interrupt, plan_write, plan_seed, plan_read, plan_blocking_read, plan_call, decide, answer_of}
+use Rattle.ledger.specs.Plans.{idle, first_seeding, feed, transferred, plan_event, plan_interrupt, plan_write, plan_seed, plan_read, plan_blocking_read, plan_call, decide, answer_of}
 use Rattle.ledger.specs.Machine.{Shown, planned, plan_at, step_view}
 use Rattle.ledger.specs.Worth.{taken_from_input, Worth}
 use Rattle.ledger.specs.declared.Ledger.{Ledger}

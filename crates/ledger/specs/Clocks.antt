@@ -1,5 +1,5 @@
 -- Clocks, their differences, and the estimate.
-use Rattle.std.specs.Prelude.{Bool, true, false, ℕ, zero, suc, ◌+◌, ◌-◌, ◌/◌, ◌%◌, ◌^◌, min, ltb, eqb, ℤ, pos, negsuc, ◌-ℤ◌, nat_abs}
+use Rattle.std.specs.Prelude.{Bool, false, ℕ, zero, suc, ◌+◌, ◌-◌, ◌/◌, ◌%◌, ◌^◌, min, ltb, eqb, ℤ, pos, negsuc, ◌-ℤ◌, nat_abs}
 use Rattle.std.proofs.Math.IntN.{sub_ℕ}
 use Rattle.ledger.specs.Choice.{pick}
 use Rattle.ledger.specs.Sizes.{events_before}

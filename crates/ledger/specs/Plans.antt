@@ -1,6 +1,6 @@
 -- What a call will do, decided from public numbers alone: the ledger, one device's timer, and the call's public fields. Tests stand
 -- in the paper's order: length before credit, blocking and seeding; device before the repeated value; a read of length 0 answers 0.
-use Rattle.std.specs.Prelude.{Bool, true, false, ◌&&◌, not, ℕ, ◌+◌, ◌-◌, ◌*◌, ◌/◌, ◌≤◌, min, max, ltb, leb, eqb}
+use Rattle.std.specs.Prelude.{Bool, true, false, ◌&&◌, not, ℕ, ◌+◌, ◌*◌, ◌≤◌, ltb, leb, eqb}
 use Rattle.ledger.specs.Choice.{pick}
 use Rattle.ledger.specs.Sizes.{devices, longest}
 use Rattle.ledger.specs.Numbers.{done, would_block, unseeded, too_long, no_such_device, credit_too_high, repeated, out_of_range}

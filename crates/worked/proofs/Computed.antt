@@ -1,17 +1,15 @@
 -- The definitions compute. One whole call of each kind, worked out by the checker from the definitions alone, gives the numbers that
 -- were worked out beside them from the paper and, for the generator, those that RFC 7539 publishes in section 2.3.2.
 use mathlib.Core.Path.{◌≡◌, refl}
-use mathlib.Core.Bool.{Bool, true, false}
-use mathlib.Core.List.{List, [], ◌∷◌, ◌++◌, zip_with, reverse}
+use mathlib.Core.List.{List, [], ◌∷◌, ◌++◌, zip_with}
 use Prim.Native.Nat.{ℕ, zero, suc, ◌+◌, ◌*◌}
 use lib.IntN.{pos}
-use lib.ListN.{take, drop, replicate, get_or}
+use lib.ListN.{take, drop, replicate}
 use Rattle.words.specs.Words.{rotl}
 use Rattle.words.specs.Bytes.{le_bytes, le_number, swapped, words_bytes, bytes_words}
 use Rattle.chacha.specs.Chacha.{line, quarter_round, inner_block, rounds, chacha_block}
 use Rattle.secure_hash.specs.Sha1.{ch, parity, maj, mix as Sha1·mix, constant, initial_hash, next_word, schedule, step, run, compressed}
 use Rattle.ledger.specs.Choice.{pick}
-use Rattle.ledger.specs.Places.{moved, moved_blocks}
 use Rattle.ledger.specs.Credits.{further, credited, taken}
 use Rattle.ledger.specs.Clocks.{signed, log2, estimate, event_bits}
 use Rattle.ledger.specs.Marks.{input_counts, blocking_counts, seeded_at}
@@ -21,10 +19,9 @@ use Rattle.pool.specs.Extracting.{hashed, pool_hash, folded, extract_blocks}
 use Rattle.keeper.specs.FastPool.{stirred}
 use Rattle.keeper.specs.Generator.{xor_at, counted, stream, generated}
 use Rattle.keeper.specs.Record.{fresh, with_ledger, with_timer, with_input_pool, with_blocking_pool, with_fast, with_generator, Outcome}
-use Rattle.keeper.specs.Calls.{Call, device_event, interrupted, written, seeded_with, generator_read, blocking_read_of}
+use Rattle.keeper.specs.Calls.{device_event, interrupted, written, seeded_with, generator_read, blocking_read_of}
 use Rattle.keeper.specs.Narrative.{reseed, credit_input, event_call, interrupt_call, write_call, seed_call, generate, read_call, transfer, deliver, blocking_call, act, told}
 use Rattle.keeper.specs.declared.Keeper.{Keeper}
-use Rattle.ledger.specs.declared.Answer.{Answer}
 
 abbrev zero48 : Keeper
 zero48 = fresh (replicate 48 0)

@@ -1,11 +1,10 @@
 -- Wrong keepers, and that none of them is the keeper that the definitions describe: for each, one call, or two, at which it must differ. These
 -- are the errors that look right and the keepers that a weak promise would let pass.
-use mathlib.Core.Path.{◌≡◌, refl, sym, ap, ◌∙◌}
-use mathlib.Core.Bool.{Bool, true, false}
-use mathlib.Core.List.{List, [], ◌∷◌, ◌++◌, zip_with}
-use Prim.Native.Nat.{ℕ, zero, suc, ◌+◌, ◌*◌}
+use mathlib.Core.Path.{◌≡◌, refl, ap, ◌∙◌}
+use mathlib.Core.List.{List, [], ◌∷◌, zip_with}
+use Prim.Native.Nat.{ℕ, ◌+◌, ◌*◌}
 use native.Mathlib.Omega.{arith}
-use lib.ListN.{get_or, take, drop, replicate}
+use lib.ListN.{get_or, replicate}
 use Rattle.words.specs.Words.{rotl}
 use Rattle.words.specs.Bytes.{le_bytes, le_number, words_bytes, bytes_words}
 use Rattle.chacha.specs.Chacha.{line, quarter_round, inner_block, rounds, chacha_block}
@@ -16,11 +15,10 @@ use Rattle.ledger.specs.Marks.{blocking_counts, seeded_at}
 use Rattle.ledger.specs.Range.{ledger_in_range, others_in_range, in_range}
 use Rattle.pool.specs.Mixing.{twisted, tapped, mixed_words, mix}
 use Rattle.pool.specs.Extracting.{hashed, pool_hash, extract_blocks}
-use Rattle.keeper.specs.FastPool.{stirred}
 use Rattle.keeper.specs.Generator.{xor_at, counted, stream, generated}
 use Rattle.keeper.specs.Record.{fresh, with_ledger, with_generator, Outcome}
 use Rattle.keeper.specs.Calls.{Call, interrupted, written, seeded_with, generator_read, blocking_read_of}
-use Rattle.keeper.specs.Narrative.{reseed, credit_input, interrupt_call, write_call, seed_call, generate, read_call, transfer, deliver, blocking_call, act, told}
+use Rattle.keeper.specs.Narrative.{credit_input, interrupt_call, write_call, seed_call, generate, read_call, transfer, deliver, blocking_call, act, told}
 use Rattle.keeper.specs.declared.Keeper.{Keeper}
 
 -- anything that takes calls, and one that is the keeper

@@ -1,5 +1,4 @@
 use Rattle.words.specs.Bytes.{swapped, le_bytes}
-use Rattle.std.proofs.Common.{rules}
 use Rattle.words.proofs.bytes.swap_bytes.Goals as goal
 
 pub returns : goal.returns

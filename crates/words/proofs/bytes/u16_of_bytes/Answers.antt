@@ -1,4 +1,4 @@
-use Rattle.std.proofs.Common.{arith, rules}
+use Rattle.std.proofs.Common.{arith}
 use Rattle.words.proofs.Numbers.{num, num_all}
 use Rattle.words.proofs.bytes.u16_of_bytes.Goals as goal
 

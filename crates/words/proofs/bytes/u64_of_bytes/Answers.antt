@@ -1,4 +1,4 @@
-use Rattle.std.proofs.Common.{arith, rules}
+use Rattle.std.proofs.Common.{arith}
 use Rattle.words.proofs.Numbers.{num, num_all}
 use Rattle.words.specs.Bytes.{le_number}
 use Rattle.words.proofs.bytes.u64_of_bytes.Goals as goal

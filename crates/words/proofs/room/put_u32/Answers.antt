@@ -1,5 +1,5 @@
-use Rattle.std.proofs.Common.{◌≡◌, ◌-◌, ◌≤◌, length, take, refl, add-one, arith, rules}
-use lib.Seq.{sets, take-length}
+use Rattle.std.proofs.Common.{◌≡◌, length, add-one, arith, rules}
+use lib.Seq.{take-length}
 use Rattle.words.proofs.Rooms.{sets-suc}
 use Rattle.words.proofs.room.put_u32.Goals as goal
 

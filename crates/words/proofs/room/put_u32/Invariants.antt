@@ -1,6 +1,5 @@
-use Rattle.std.proofs.Common.{◌≡◌, ◌-◌, ◌≤◌, length, take, refl, add-one, arith, rules}
-use lib.Seq.{sets, take-length}
-use Rattle.words.proofs.Rooms.{sets-suc}
+use Rattle.std.proofs.Common.{◌≡◌, ◌-◌, ◌≤◌, length, take}
+use lib.Seq.{sets}
 use Rattle.words.proofs.room.put_u32.Given as goal
 
 abbrev pub invariant-loop-i : goal.invariant-loop-i

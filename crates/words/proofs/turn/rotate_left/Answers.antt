@@ -1,4 +1,4 @@
-use Rattle.std.proofs.Common.{◌%◌, arith, rules}
+use Rattle.std.proofs.Common.{◌%◌, arith}
 use Rattle.words.proofs.Rotation.{by_shifts}
 use Rattle.words.proofs.turn.rotate_left.Goals as goal
 
