@@ -4,7 +4,7 @@
 // It decides nothing. Every refusal is in the step, so a front has no branch, and nothing is asked of the record or of a number.
 //
 // The contract of each is one equation for all inputs: the record, the answer and the output room, as the call has left them, are
-// what specs/Promise.antt of `steps` says that the call leaves. The walks in proofs/ are printed by fronts/print.
+// what specs/Promise.antt of `steps` says that the call leaves. The proofs are printed by fronts/print.
 #![tactic(auto)]
 
 ghost use Rattle.std.specs.Prelude.{◌≡◌, [], length};

@@ -1,3 +1,4 @@
+-- Printed by fronts/print: do not edit.
 -- What the call says of any arrays that it is not lent, it says of the record's.
 use Rattle.lent.proofs.nk_read.Goals as goal
 
