@@ -1,19 +1,17 @@
 -- The line of a record number, part by part.
-use mathlib.Core.Path.{◌≡◌, refl, sym, ap, ◌∙◌}
-use mathlib.Core.List.{List, [], ◌++◌}
-use Prim.Native.Nat.{ℕ, ◌+◌, ◌-◌, ◌*◌, ◌≤◌}
+use mathlib.Core.Path.{◌≡◌, ap, ◌∙◌}
+use mathlib.Core.List.{List}
+use Prim.Native.Nat.{ℕ, ◌-◌, ◌≤◌}
 use native.Mathlib.Omega.{arith}
 use borrow.Author.Tests.{eq-eqb, ne_eqb}
 use lib.ListN.{length, take, drop, length-take}
 use lib.Seq.{take-length}
 use Rattle.ledger.specs.Choice.{pick}
-use Rattle.ledger.specs.Sizes.{longest}
 use Rattle.journal.specs.Layout.{carries}
 use Rattle.journal.specs.Header.{version_of}
 use Rattle.journal.specs.Reading.{read_at}
 use Rattle.journal.specs.Writing.{carried_by}
 use Rattle.journal.specs.declared.records.Record.{Record}
-use Rattle.journal.specs.declared.records.Found.{Found}
 use Rattle.journal.specs.declared.records.Found.TheVariants.{One, Stop, End}
 use Rattle.journal.proofs.Laws.{carried_whole}
 use Rattle.transcript.specs.Text.{Put}

@@ -1,7 +1,7 @@
 // A class as a person writes it: `drill`, `live`, or a class field in hexadecimal.
 ghost use Rattle.std.specs.Prelude.{◌≡◌, true, [], ◌∷◌, ◌+◌, ◌*◌, ◌≤◌, ◌<◌, length};
 ghost use Rattle.transcript.specs.Text.{Put};
-ghost use Rattle.lab.specs.Classes.{in_run, hex_value, is_hex, bytes_of, class-field, field_of, Gives};
+ghost use Rattle.lab.specs.Classes.{in_run, hex_value, is_hex, bytes_of, class_field, field_of, Gives};
 
 use check::same;
 use desk::{DRILL, LIVE};
@@ -80,7 +80,7 @@ fn lay_bytes(word: &[u8], room: &mut [u8]) -> usize
 
 fn lay_one(b: u8, room: &mut [u8]) -> Class
     requires { 0 < length room.old }
-    ensures { Gives (class-field (b ∷ [])) result room.old room.new × (result.len ≤ length room.new) }
+    ensures { Gives (class_field (b ∷ [])) result room.old room.new × (result.len ≤ length room.new) }
 {
     room[0] = b;
     Class { good: true, len: 1 }

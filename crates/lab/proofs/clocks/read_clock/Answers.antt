@@ -1,12 +1,8 @@
-use mathlib.Core.Path.{◌≡◌, refl, sym, ◌∙◌}
-use Prim.Native.Nat.{◌-◌, ◌<◌}
+use mathlib.Core.Path.{refl, sym, ◌∙◌}
 use native.Mathlib.Omega.{arith}
 use native.Mathlib.Numerals.{add-one}
-use lib.ListN.{length, drop}
-use Rattle.lab.specs.Numbers.{all_digits, is_number, decimal}
 use Rattle.lab.proofs.Digits.{none, some, another, too_low, too_high, all_read}
 use Rattle.lab.proofs.ClockDigits.{next_digit, no_digit_left, no_number, too_large, a_clock}
-use borrow.Author.Rules.{rules}
 use Rattle.lab.proofs.clocks.read_clock.Goals as goal
 
 pub returns-then-word-eq0 : goal.returns-then-word-eq0

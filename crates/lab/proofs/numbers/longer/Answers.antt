@@ -1,9 +1,8 @@
-use mathlib.Core.Path.{◌≡◌, refl}
+use mathlib.Core.Path.{refl}
 use native.Mathlib.Omega.{arith}
 use borrow.Author.Tests.{lt-ltb, le-ltb}
 use Rattle.ledger.specs.Choice.{pick}
 use Rattle.lab.specs.Numbers.{onward}
-use borrow.Author.Rules.{rules}
 use Rattle.lab.proofs.numbers.longer.Goals as goal
 
 pub returns-then-value-lt-ENOUGH : goal.returns-then-value-lt-ENOUGH

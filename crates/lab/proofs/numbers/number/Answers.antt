@@ -1,12 +1,7 @@
-use mathlib.Core.Path.{◌≡◌, refl, sym, ap, ◌∙◌}
-use mathlib.Core.Bool.{true, false}
-use Prim.Native.Nat.{◌+◌, ◌-◌, ◌≤◌, ◌<◌}
+use mathlib.Core.Path.{refl, sym, ◌∙◌}
 use native.Mathlib.Omega.{arith}
 use native.Mathlib.Numerals.{add-one}
-use lib.ListN.{length, drop}
-use Rattle.lab.specs.Numbers.{all_digits, is_number, onward}
 use Rattle.lab.proofs.Digits.{none, some, another, too_low, too_high, all_read, false_is_not_true}
-use borrow.Author.Rules.{rules}
 use Rattle.lab.proofs.numbers.number.Goals as goal
 
 pub returns-then-word-eq0 : goal.returns-then-word-eq0

@@ -1,11 +1,6 @@
-use mathlib.Core.Path.{◌≡◌, refl, sym, ap, ◌∙◌}
-use Prim.Native.Nat.{suc, ◌+◌, ◌-◌, ◌≤◌, ◌<◌}
 use native.Mathlib.Omega.{arith}
 use native.Mathlib.Numerals.{add-one}
-use lib.ListN.{length, drop}
-use Rattle.lab.specs.Numbers.{zeros_before}
 use Rattle.lab.proofs.Digits.{last_digit, no_zero, one_zero, no_more}
-use borrow.Author.Rules.{rules}
 use Rattle.lab.proofs.numbers.zeros_before.Goals as goal
 
 pub loop-i-init : goal.loop-i-init

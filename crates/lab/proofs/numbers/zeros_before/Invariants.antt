@@ -1,11 +1,7 @@
-use mathlib.Core.Path.{◌≡◌, refl, sym, ap, ◌∙◌}
-use Prim.Native.Nat.{suc, ◌+◌, ◌-◌, ◌≤◌, ◌<◌}
-use native.Mathlib.Omega.{arith}
-use native.Mathlib.Numerals.{add-one}
+use mathlib.Core.Path.{◌≡◌}
+use Prim.Native.Nat.{◌+◌, ◌-◌, ◌≤◌}
 use lib.ListN.{length, drop}
 use Rattle.lab.specs.Numbers.{zeros_before}
-use Rattle.lab.proofs.Digits.{last_digit, no_zero, one_zero, no_more}
-use borrow.Author.Rules.{rules}
 use Rattle.lab.proofs.numbers.zeros_before.Given as goal
 
 abbrev pub invariant-loop-i : goal.invariant-loop-i
