@@ -6,10 +6,9 @@ use Prim.Native.Nat.{ℕ, ◌<◌}
 use native.Mathlib.Omega.{arith}
 use borrow.Author.Tests.{eq-eqb, leb-false}
 use Rattle.ledger.specs.Choice.{pick}
-use Rattle.ledger.specs.Sizes.{devices}
 use Rattle.journal.specs.Layout.{devices_in}
-use Rattle.journal.specs.Header.{header_of, version_of, start_of}
-use Rattle.journal.specs.Walking.{Entry, walk_of, ending_of}
+use Rattle.journal.specs.Header.{header_of, version_of}
+use Rattle.journal.specs.Walking.{Entry, walk_of}
 use Rattle.journal.specs.Writing.{Said, said_at, said_in}
 use Rattle.journal.specs.declared.heading.Heading.{Heading}
 use Rattle.journal.specs.declared.records.Record.{Record}
@@ -25,7 +24,7 @@ use Rattle.convert.specs.Converting.{outcome_of, strange, beyond, refusal_of}
 use Rattle.convert.proofs.Refusing.{taken}
 use Rattle.convert.proofs.ConvertedJournals.{header_2, same_start, same_records, ends}
 use Rattle.replay.specs.Running.{call_with, call_of}
-use Rattle.replay.specs.Whole.{calls_of, outcomes_of, lines_of, transcript_of, replayed}
+use Rattle.replay.specs.Whole.{calls_of, lines_of, transcript_of, replayed}
 use Rattle.replay.proofs.OldDevices.{named}
 
 -- ---- calls are made of records and the bytes that they carry, wherever they stand
