@@ -1,5 +1,5 @@
 // A journal run for as many records as a room has place for the lines of.
-ghost use Rattle.steps.specs.Promise.{lent};
+ghost use Rattle.steps.specs.Promise.{both, lent};
 ghost use Rattle.nk.specs.Batches.{batch_of, Laid};
 
 use lab::lay;
@@ -39,7 +39,7 @@ pub fn fill_room(
     generator: &mut [u32; GENERATOR_WORDS],
     room: &mut [u8; ROOM],
 ) -> Batch
-    ensures { let k = lent l result.ledger clocks firsts seconds came input blocking fast generator in Laid (batch_of version j.now at k.entry) k.exit result room.old room.new }
+    ensures { let k = lent l result.ledger (both clocks.old clocks.new) (both firsts.old firsts.new) (both seconds.old seconds.new) (both came.old came.new) (both input.old input.new) (both blocking.old blocking.new) (both fast.old fast.new) (both generator.old generator.new) in Laid (batch_of version j.now at k.entry) k.exit result room.old room.new }
 {
     let mut out = [0u8; OUT_ROOM];
     let mut line = [0u8; LONGEST_LINE];
