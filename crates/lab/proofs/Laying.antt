@@ -4,7 +4,7 @@ use mathlib.Core.List.{List}
 use Prim.Native.Nat.{ℕ, suc, ◌+◌, ◌≤◌, ◌<◌}
 use native.Mathlib.Omega.{arith}
 use lib.ListN.{length, set, take, get_or}
-use lib.Seq.{sets, take-suc}
+use lib.Seq.{sets, take-suc, length-take-le}
 use Rattle.transcript.specs.Text.{Put}
 use Rattle.transcript.proofs.Laws.{then, one}
 
@@ -25,3 +25,7 @@ pub all_laid : (start room line : List ℕ) (at i n : ℕ) → i ≤ n → n ≤
 all_laid start room line at i n h k p =
     let e : i ≡ n = omega (arith, h, k) in
     record { place = p.place ∙ ap (λ (m : ℕ). at + length (take m line)) e; stored = p.stored ∙ ap (λ (m : ℕ). sets start at (take m line)) e }
+
+-- a part from the start is as long as it was asked to be
+pub part_least : (n m : ℕ) (l : List ℕ) → m ≤ n → n ≤ length l → m ≤ length (take n l)
+part_least n m l h k = let e = length-take-le n l k in omega arith
