@@ -75,7 +75,7 @@ struct situation {
 };
 
 static const struct situation situations[] = {
-    {"nk_make", 144, make, NK_DONE, 0},
+    {"nk_make", 160, make, NK_DONE, 0},
     {NULL, 0, make_refused, NK_START_NOT_48, 0},
     {"nk_event", 480, event, NK_DONE, 0},
     {NULL, 0, event_of_last_device, NK_DONE, 0},
@@ -85,11 +85,11 @@ static const struct situation situations[] = {
     {"nk_interrupt", 480, interrupt, NK_DONE, 0},
     {NULL, 0, interrupt_spills, NK_DONE, 0},
     {NULL, 0, interrupt_seeds, NK_DONE, 1},
-    {"nk_write", 120, write_some, NK_DONE, 0},
+    {"nk_write", 216, write_some, NK_DONE, 0},
     {NULL, 0, write_refused, NK_TOO_LONG, 0},
-    {"nk_seed", 480, seed, NK_DONE, 0},
+    {"nk_seed", 496, seed, NK_DONE, 0},
     {NULL, 0, seed_seeds, NK_DONE, 1},
-    {"nk_read", 496, read_short, NK_DONE, 0},
+    {"nk_read", 528, read_short, NK_DONE, 0},
     {NULL, 0, read_long, NK_DONE, 0},
     {NULL, 0, read_reseeds, NK_DONE, 1},
     {NULL, 0, read_refused, NK_UNSEEDED, 0},
