@@ -3,7 +3,7 @@ ghost use Rattle.std.specs.Prelude.{◌≤◌, length};
 ghost use Rattle.lab.specs.Counts.{IsPrefixLen};
 ghost use Rattle.std.specs.Io.{ReadsAtMost};
 
-use crate::messages::{StandardError, about, fail, name_too_long, no_name, opening};
+use crate::messages::{StandardError, about, fail, is_told, name_too_long, no_name, opening};
 use journal::LARGEST;
 use std::io::Read;
 use std::rt::{Env, Files};
@@ -79,13 +79,14 @@ pub fn bring(rt: &(impl Env + Files + StandardError), i: usize, room: &mut [u8])
     ensures { IsPrefixLen result.count room.new }
 {
     let mut said = opening();
-    let Ok(n) = about(rt, i, &mut said) else {
+    let n = about(rt, i, &mut said);
+    if !is_told(rt, i) {
         name_too_long(rt);
         return Filled {
             count: 0,
             whole: false,
         };
-    };
+    }
     load(rt, &said[..n], room)
 }
 
@@ -94,9 +95,7 @@ pub fn glimpse(rt: &(impl Env + Files), i: usize, room: &mut [u8]) -> usize
     ensures { IsPrefixLen result room.new }
 {
     let mut said = opening();
-    let Ok(n) = about(rt, i, &mut said) else {
-        return 0;
-    };
+    let n = about(rt, i, &mut said);
     match read_start(rt, &said[4..n], room) {
         Ok(count) => count,
         Err(_) => 0,
@@ -106,10 +105,11 @@ pub fn glimpse(rt: &(impl Env + Files), i: usize, room: &mut [u8]) -> usize
 // Whether argument i can be a file's name. One that is too long or empty is told.
 pub fn is_name(rt: &(impl Env + StandardError), i: usize) -> bool {
     let mut said = opening();
-    let Ok(n) = about(rt, i, &mut said) else {
+    let n = about(rt, i, &mut said);
+    if !is_told(rt, i) {
         name_too_long(rt);
         return false;
-    };
+    }
     if n == 4 {
         no_name(rt);
         return false;

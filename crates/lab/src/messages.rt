@@ -1,7 +1,6 @@
 // What is said to a person where something is wrong: one line on standard error.
-ghost use Rattle.std.specs.Prelude.{◌≡◌, ◌≤◌, IfOk, length};
+ghost use Rattle.std.specs.Prelude.{◌≡◌, ◌≤◌, length};
 
-use std::env::FillError;
 use std::io;
 use std::io::{Cursor, Write};
 use std::rt::Env;
@@ -116,11 +115,17 @@ pub fn opening() -> [u8; 4100] {
     text
 }
 
-// Lays the name of the file that argument i is behind `nk: `: the start of a message about that file. Answers how long it is, or that the
-// name is too long.
-pub fn about(rt: &impl Env, i: usize, said: &mut [u8]) -> Result<usize, FillError>
+// Lays the name of the file that argument i is behind `nk: `: the start of a message about that file. Answers how long it is; of a name that is
+// too long there is nothing.
+pub fn about(rt: &impl Env, i: usize, said: &mut [u8]) -> usize
     requires { length said.old ≡ 4100 }
-    ensures { IfOk result (λ n. (4 ≤ n) × (n ≤ length said.new)) }
+    ensures { (4 ≤ result) × (result ≤ length said.new) }
 {
-    Ok(4 + rt.arg(i, &mut said[4..])?)
+    4 + rt.arg(i, &mut said[4..]).unwrap_or(0)
+}
+
+// Whether the name of the file that argument i is goes behind `nk: `.
+pub fn is_told(rt: &impl Env, i: usize) -> bool {
+    let mut name = [0u8; 4096];
+    rt.arg(i, &mut name).is_ok()
 }

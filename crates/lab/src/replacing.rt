@@ -89,7 +89,7 @@ pub fn put_in_place(rt: &(impl Env + Files + StandardError), i: usize, letters: 
     let mut said = opening();
     let n = beside(rt, i, letters, &mut said);
     let mut place = messages::opening();
-    let m = about(rt, i, &mut place).unwrap_or(4);
+    let m = about(rt, i, &mut place);
     match rename(rt, &said[4..n], &place[4..m]) {
         Ok(()) => true,
         Err(why) => {
