@@ -5,7 +5,6 @@
 #![tactic(auto)]
 
 mod calls;
-mod print;
 mod sums;
 
 use std::io;

@@ -2,11 +2,10 @@
 ghost use Rattle.std.specs.Prelude.{◌≡◌};
 ghost use Rattle.chacha.specs.Chacha.{quarter, inner_block};
 
-use std::num::wrapping_add_u32;
 use words::rotate_left;
 
-// Four words of a state.
-#[derive(Drop)]
+// Four words of a state, by the names that RFC 7539 and the definition `quarter` give them.
+#[derive(Clone, Copy)]
 pub struct Four {
     pub a: u32,
     pub b: u32,
@@ -15,16 +14,17 @@ pub struct Four {
 }
 
 // The quarter round on four words by themselves. A state that goes from call to call as four numbers stays in registers, word by word.
+#[tactic(auto, unfolding(crate::specs::Chacha::quarter))]
 pub fn quarter(a: u32, b: u32, c: u32, d: u32) -> Four
     ensures { result ≡ quarter a b c d }
 {
-    let a1 = wrapping_add_u32(a, b);
+    let a1 = a.wrapping_add(b);
     let d1 = rotate_left(d ^ a1, 16);
-    let c1 = wrapping_add_u32(c, d1);
+    let c1 = c.wrapping_add(d1);
     let b1 = rotate_left(b ^ c1, 12);
-    let a2 = wrapping_add_u32(a1, b1);
+    let a2 = a1.wrapping_add(b1);
     let d2 = rotate_left(d1 ^ a2, 8);
-    let c2 = wrapping_add_u32(c1, d2);
+    let c2 = c1.wrapping_add(d2);
     let b2 = rotate_left(b1 ^ c2, 7);
     Four {
         a: a2,

@@ -15,7 +15,7 @@ use Rattle.ledger.proofs.Picks.{pick_by}
 use Rattle.journal.specs.Header.{records_begin, heading, known, header_of, version_of, start_of}
 use Rattle.journal.specs.Walking.{walk, walk_of, ending_of}
 use Rattle.journal.specs.Writing.{said_in, AllWritable}
-use Rattle.journal.specs.declared.heading.Heading.{Heading}
+use Rattle.journal.specs.Found.{Heading}
 use Rattle.journal.proofs.Runs.{Bytes}
 use Rattle.journal.proofs.Laws.{start_48}
 use Rattle.journal.proofs.Walks.{good_walk}

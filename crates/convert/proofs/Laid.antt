@@ -12,7 +12,7 @@ use Rattle.journal.specs.Header.{records_begin, start_of}
 use Rattle.journal.specs.Walking.{halt, walk, walk_of}
 use Rattle.journal.specs.Writing.{bytes_of, carried_by, header_for, said_at, written, journal_of}
 use Rattle.journal.specs.declared.records.Record.{Record}
-use Rattle.journal.specs.declared.records.Found.TheVariants.{One}
+use Rattle.journal.specs.Found.{One}
 use Rattle.journal.proofs.Appended.{ends_well}
 use Rattle.journal.proofs.Walks.{walk_one, good_walk}
 use Rattle.convert.specs.Converting.{outcome_of}

@@ -13,7 +13,7 @@ use Rattle.journal.specs.Walking.{Walk, walk, walk_of, ending_of}
 use Rattle.journal.specs.Writing.{bytes_of, carried_by, header_for, said_at, said_in, written, journal_of}
 use Rattle.journal.specs.declared.records.Record.{Record}
 use Rattle.journal.specs.declared.records.Record.TheVariants.{Event, Interrupt, Write, Seed, Read, BlockingRead}
-use Rattle.journal.specs.declared.records.Found.TheVariants.{One}
+use Rattle.journal.specs.Found.{One}
 use Rattle.journal.proofs.GoodHeader.{header_good}
 use Rattle.journal.proofs.Appended.{ends_well}
 use Rattle.journal.proofs.CutWalks.{stops_within}

@@ -4,10 +4,14 @@ use mathlib.Core.Bool.{Bool, true, false, ◌||◌}
 use mathlib.Core.List.{List}
 use Prim.Native.Nat.{ℕ, ◌+◌, ◌≤◌}
 use native.Mathlib.Omega.{arith}
+use lib.Dec.{leb}
+use Rattle.std.proofs.Common.{add-zero}
 use Rattle.journal.specs.Reading.{read_at}
 use Rattle.journal.specs.Walking.{halt, walk}
+use Rattle.journal.specs.Layout.{devices_in}
 use Rattle.journal.specs.declared.records.Record.{Record}
-use Rattle.journal.specs.declared.records.Found.TheVariants.{One}
+use Rattle.journal.specs.declared.records.Record.TheVariants.{Event, Interrupt, Write, Seed, Read, BlockingRead}
+use Rattle.journal.specs.Found.{One}
 use Rattle.journal.proofs.Onward.{read_ahead}
 use Rattle.journal.proofs.Walks.{walk_one}
 use Rattle.convert.specs.Converting.{strange, beyond}
@@ -21,6 +25,16 @@ or_assoc false b c = refl
 or_false : (a : Bool) → (a || false) ≡ a
 or_false true = refl
 or_false false = refl
+
+-- a record that is no event
+other : (r : Record) → ((now device stamp value : ℕ) → r ≡ Event now device stamp value → ⊥) → (strange r ≡ false) × (one_event r ≡ 0)
+unfolding strange one_event
+other (Event now device stamp value) n = absurd (n now device stamp value refl)
+other (Interrupt now number stamp address) n = (refl, refl)
+other (Write now len) n = (refl, refl)
+other (Seed now len credit) n = (refl, refl)
+other (Read now len) n = (refl, refl)
+other (BlockingRead now len) n = (refl, refl)
 
 -- at a position of the walk from another on, with this found of the records before it
 pub record Going (v : ℕ) (j : List ℕ) (from at : ℕ) (odd : Bool) (events : ℕ) : Type 0 where
@@ -45,6 +59,16 @@ module _ {v : ℕ} {j : List ℕ} {from at : ℕ} {odd : Bool} {events : ℕ} (g
         counted = omega (arith, c);
         few = omega (arith, g.few, one_at_most r, (read_ahead v j at r next e).0);
       }
+
+  pub past_event : (r : Record) (next now device stamp value : ℕ) → r ≡ Event now device stamp value → read_at v j at ≡ One r next
+      → Going v j from next (odd || leb (devices_in 1) device) (events + 1)
+  unfolding strange one_event
+  past_event r next now device stamp value q e = rw q at (going_on r next e)
+
+  pub past_other : (r : Record) (next : ℕ) → ((now device stamp value : ℕ) → r ≡ Event now device stamp value → ⊥) → read_at v j at ≡ One r next → Going v j from next odd events
+  past_other r next n e =
+      let o = other r n in
+      rw (o.0, o.1, or_false odd, add-zero events) at (going_on r next e)
 
   -- where no record stands
   pub gone : (n : ℕ) → walk v j at ≡ halt at n → record { number = n; strange = odd; events = events } ≡ judged (walk v j from)

@@ -11,13 +11,12 @@ use Rattle.ledger.specs.Choice.{pick, first}
 use Rattle.ledger.specs.Numbers.{no_such_device, version_wrong, journal_too_large, room_too_short}
 use Rattle.journal.specs.Header.{largest, records_begin, header_of, version_of}
 use Rattle.journal.specs.Walking.{walk, walk_of, ending_of}
-use Rattle.journal.specs.declared.heading.Heading.{Heading}
+use Rattle.journal.specs.Found.{Heading}
 use Rattle.journal.proofs.Sides.{by_same}
 use Rattle.journal.proofs.GoodHeader.{header_good, heading_good}
 use Rattle.journal.proofs.Walks.{refused, good_walk}
 use Rattle.convert.specs.Converting.{outcome_of, beyond, refusal_of, converted_of, room_after}
-use Rattle.convert.specs.Passes.{events_in, judged}
-use Rattle.convert.specs.declared.judging.Judged.{Judged}
+use Rattle.convert.specs.Passes.{events_in, Judged, judged}
 use Rattle.convert.proofs.Longer.{events_few, one_byte_longer}
 
 module _ (j : List ℕ) (n : ℕ) where

@@ -1,15 +1,17 @@
 // A journal written as version 2 into a room that is lent.
 ghost use Rattle.std.specs.Prelude.{◌≡◌, ◌+◌, ◌≤◌, length};
 ghost use Rattle.std.proofs.lemmas.List.Edits.{sets};
+ghost use Rattle.ledger.specs.Refusals.{number_given};
 ghost use Rattle.convert.specs.Converting.{outcome_of, refusal_of, converted_of, room_after};
 ghost use Rattle.convert.specs.Passes.{rewritten};
 
 use crate::judging::judge;
-use journal::{Found, LARGEST, RECORDS_BEGIN, carried, header, payload, put, put_header, read};
-use ledger::numbers::{JOURNAL_TOO_LARGE, NO_SUCH_DEVICE, ROOM_TOO_SHORT, VERSION_WRONG};
+use journal::{LARGEST, RECORDS_BEGIN, header, payload, put, put_header, read};
+use ledger::Refusal;
+use ledger::refusals::DONE;
 use ledger::sizes::START_BYTES;
 
-// What came of converting: 0 and how many bytes were written; or the number that refused it, and none.
+// What came of converting: 0 and how many bytes were written; or the number that refused it, and none. C's form (include/nk_convert.h).
 #[repr(C)]
 #[derive(Clone, Copy)]
 pub struct Converted {
@@ -17,32 +19,26 @@ pub struct Converted {
     pub len: usize,
 }
 
-// The first reason to refuse, or 0, where the room has so many bytes.
-fn refusal(j: &[u8], room: usize) -> u32
-    ensures { result ≡ refusal_of j.now room }
+// The first reason to refuse, if there is one, where the room has so many bytes.
+fn refused(j: &[u8], room: usize) -> Result<(), Refusal>
+    ensures { number_given result ≡ refusal_of j.now room }
 {
-    let h = header(j);
-    if h.number != 0 {
-        return h.number;
-    }
-    let found = judge(h.version, j, h.place);
-    if found.number != 0 {
-        return found.number;
-    }
+    let h = header(j)?;
+    let found = judge(h.version, j, h.place)?;
     if h.version != 1 {
-        return VERSION_WRONG;
+        return Err(Refusal::VersionWrong);
     }
     if found.strange {
-        return NO_SUCH_DEVICE;
+        return Err(Refusal::NoSuchDevice);
     }
     let len = j.len() + found.events;
     if len > LARGEST {
-        return JOURNAL_TOO_LARGE;
+        return Err(Refusal::JournalTooLarge);
     }
     if room < len {
-        return ROOM_TOO_SHORT;
+        return Err(Refusal::RoomTooShort);
     }
-    0
+    Ok(())
 }
 
 // Lays the records from a position on, each as version 2 has it, into the room from a place on. Answers the place behind them.
@@ -53,20 +49,11 @@ fn write_records(j: &[u8], from: usize, room: &mut [u8], to: usize) -> usize
 {
     let mut at = from;
     let mut place = to;
-    loop {
-        match read(1, j, at) {
-            Found::One(it, next) => {
-                place = put(2, it, payload(j, next, carried(it)), room, place);
-                at = next;
-            }
-            Found::Stop(_) => {
-                return place;
-            }
-            Found::End => {
-                return place;
-            }
-        }
+    while let Ok(Some((it, next))) = read(1, j, at) {
+        place = put(2, it, payload(j, next, it.carried()), room, place);
+        at = next;
     }
+    place
 }
 
 // The outcome at the room's start. Answers its length.
@@ -85,10 +72,14 @@ pub fn nk_convert(j: &[u8], room: &mut [u8]) -> Converted
     ensures value { result ≡ converted_of j.now (length room.old) }
     ensures room_after { room.new ≡ room_after j.now room.old }
 {
-    let number = refusal(j, room.len());
-    if number != 0 {
-        return Converted { number, len: 0 };
+    match refused(j, room.len()) {
+        Ok(()) => Converted {
+            number: DONE,
+            len: write_out(j, room),
+        },
+        Err(why) => Converted {
+            number: why.number(),
+            len: 0,
+        },
     }
-    let len = write_out(j, room);
-    Converted { number: 0, len }
 }

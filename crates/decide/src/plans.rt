@@ -1,69 +1,41 @@
 // What a call will do, decided from public numbers alone. Each function here stands for the definition of the same name in
-// `ledger`; a `decide_` function is what code above calls, and it takes any values: out of range is an answer.
-ghost use Rattle.std.specs.Prelude.{◌≡◌, true, ◌&&◌, ◌≤◌, ◌*◌, min, max, eqb};
+// `ledger`; a `decide_` function is what code above calls, and it takes any values: out of range is a refusal like the others.
+#![tactic(auto, using(std::proofs::lemmas::Bool::Decides::nat_tests), unfolding(ledger::specs::Choice::pick, ledger::specs::Plans::first_seeding, ledger::specs::Plans::feed, ledger::specs::Plans::plan_event, ledger::specs::Plans::plan_interrupt, ledger::specs::Plans::plan_write, ledger::specs::Plans::plan_seed, ledger::specs::Plans::plan_read, ledger::specs::Plans::plan_blocking_read, ledger::specs::Plans::plan_call, ledger::specs::Plans::decide, ledger::specs::Range::ledger_in_range))]
+
+ghost use Rattle.std.specs.Prelude.{◌≡◌, true, ◌&&◌, ◌≤◌, ◌*◌, min, max, eqb, IsTrue, IsFalse, IfOk, MatchResult};
 ghost use Rattle.ledger.specs.Choice.{pick};
+ghost use Rattle.ledger.specs.Numbers.{done};
 ghost use Rattle.ledger.specs.Sizes.{input_size, blocking_size, longest};
 ghost use Rattle.ledger.specs.Credits.{reseed_takes};
 ghost use Rattle.ledger.specs.Timers.{fresh_timer};
 ghost use Rattle.ledger.specs.Marks.{input_counts, blocking_counts, valued, tallied, spilled, stays, reseed_due, is_low};
 ghost use Rattle.ledger.specs.Range.{ledger_in_range, timer_in_range};
 ghost use Rattle.ledger.specs.PublicCalls.{event, interrupt, write, seed, read, blocking_read};
-ghost use Rattle.ledger.specs.Plans.{plan_of, idle, first_seeding, reseeding, feed, keeping, plan_event, plan_interrupt, plan_write, plan_seed, plan_read, transferred, plan_blocking_read, decide};
+ghost use Rattle.ledger.specs.Plans.{idle, first_seeding, reseeding, feed, plan_event, plan_interrupt, plan_write, plan_seed, plan_read, transferred, plan_blocking_read, decide};
+ghost use Rattle.ledger.specs.Planned.{plan_or_idle};
+ghost use Rattle.ledger.specs.declared.refusals.Refusal.TheVariants.{OutOfRange};
 
-use ledger::numbers::{
-    CREDIT_TOO_HIGH, DONE, NO_SUCH_DEVICE, OUT_OF_RANGE, REPEATED, TOO_LONG, UNSEEDED, WOULD_BLOCK,
-};
+use ledger::refusals::DONE;
 use ledger::sizes::{BLOCKING_SIZE, DEVICES, INPUT_SIZE, LONGEST};
-use ledger::{Ledger, Plan, Timer};
+use ledger::{Gauge, Ledger, Plan, Refusal, Seeding, Spill, Timer};
 use reckon::{credit, debit, event_bits, exceeds, ledger_in_range, next_timer, timer_in_range};
 
-// A timer of a device that had no event: what a plan holds that keeps none.
+// A timer of a device that had no event.
 fn fresh_timer() -> Timer
     ensures { result ≡ fresh_timer }
 {
-    Timer {
-        clock: 0,
-        d1: 0,
-        d2: 0,
-        came: 0,
-    }
+    Timer::default()
 }
 
-// A plan that keeps no timer.
-fn plan_of(
-    number: u32,
-    l: Ledger,
-    added: u32,
-    stirs: bool,
-    feeds: bool,
-    reseed: u32,
-    transfer: u32,
-    deliver: u32,
-    stream: u32,
-) -> Plan
-    ensures { result ≡ plan_of number l added stirs feeds reseed transfer deliver stream }
+// Nothing is done: no byte is moved, nothing is added, and no timer kept.
+fn idle(l: Ledger) -> Plan
+    ensures { result ≡ idle done l }
 {
-    let t = fresh_timer();
     Plan {
-        number: number,
+        number: DONE,
         ledger: l,
-        added: added,
-        timer: t,
-        keeps: false,
-        stirs: stirs,
-        feeds: feeds,
-        reseed: reseed,
-        transfer: transfer,
-        deliver: deliver,
-        stream: stream,
+        ..Plan::default()
     }
-}
-
-// An answer, and nothing is done.
-fn idle(number: u32, l: Ledger) -> Plan
-    ensures { result ≡ idle number l }
-{
-    plan_of(number, l, 0, false, false, 0, 0, 0, 0)
 }
 
 // The input count becomes c, of which a reseed then takes t bytes: if it takes none, the marks of a seeding stay.
@@ -71,28 +43,30 @@ fn reseeding(now: u32, c: u32, t: u32, l: Ledger) -> Ledger
     requires { 64 * t ≤ c }
     ensures { result ≡ reseeding now c t l }
 {
-    let left = c - 64 * t;
-    let mut n = l;
-    n.input.count = left;
-    if t == 0 {
-        return n;
+    let seeding = if t == 0 {
+        l.seeding
+    } else {
+        Seeding {
+            mark: 1,
+            clock: now,
+        }
+    };
+    Ledger {
+        input: Gauge {
+            count: c - 64 * t,
+            ..l.input
+        },
+        seeding,
+        ..l
     }
-    n.seeding.mark = 1;
-    n.seeding.clock = now;
-    n
 }
 
 // The bytes of a first seeding, if the credit of some bits that led to this count brings one.
 fn first_seeding(bits: u32, count: u32, l: Ledger) -> u32
-    ensures { (result ≡ first_seeding bits count l) × (64 * result ≤ count) }
+    ensures value { result ≡ first_seeding bits count l }
+    ensures held { 64 * result ≤ count }
 {
-    if bits == 0 {
-        return 0;
-    }
-    if l.seeding.mark == 1 {
-        return 0;
-    }
-    if count < 1024 {
+    if bits == 0 || l.seeding.mark == 1 || count < 1024 {
         return 0;
     }
     debit(32, 16, count)
@@ -102,57 +76,54 @@ fn first_seeding(bits: u32, count: u32, l: Ledger) -> u32
 // from the new count comes after it.
 fn feed(now: u32, stirs: bool, bits: u32, l: Ledger) -> Plan
     requires { (l.input.count ≤ input_size) × (bits ≤ 8 * longest) }
-    ensures { result ≡ feed now stirs bits l }
+    ensures value { result ≡ feed now stirs bits l }
+    ensures number { result.number ≡ done }
 {
-    let c = credit(INPUT_SIZE, l.input.count, bits);
-    let t = first_seeding(bits, c.count, l);
-    let n = reseeding(now, c.count, t, l);
-    plan_of(DONE, n, c.added, stirs, true, t, 0, 0, 0)
-}
-
-// The same plan, with a timer that is kept.
-fn keeping(t: Timer, p: Plan) -> Plan
-    ensures { result ≡ keeping t p }
-{
-    let mut q = p;
-    q.timer = t;
-    q.keeps = true;
-    q
+    let credited = credit(INPUT_SIZE, l.input.count, bits);
+    let reseed = first_seeding(bits, credited.count, l);
+    Plan {
+        added: credited.added,
+        stirs,
+        feeds: true,
+        reseed,
+        ..idle(reseeding(now, credited.count, reseed, l))
+    }
 }
 
 // On device 0 the value is kept.
 fn valued(device: u32, value: u32, l: Ledger) -> Ledger
     ensures { result ≡ valued device value l }
 {
-    let mut n = l;
     if device == 0 {
-        n.value = value;
-        return n;
+        Ledger { value, ..l }
+    } else {
+        l
     }
-    n
 }
 
 // An event on device 0 with the value that was kept last.
 fn repeats(device: u32, value: u32, l: Ledger) -> bool
     ensures { result ≡ (eqb device 0 && eqb value l.value) }
 {
-    (device == 0) & (value == l.value)
+    device == 0 && value == l.value
 }
 
-fn plan_event(device: u32, now: u32, value: u32, t: Timer, l: Ledger) -> Plan
+fn plan_event(device: u32, now: u32, value: u32, t: Timer, l: Ledger) -> Result<Plan, Refusal>
     requires { (timer_in_range t ≡ true) × (l.input.count ≤ input_size) }
-    ensures { result ≡ plan_event device now value t l }
+    ensures value { plan_or_idle l result ≡ plan_event device now value t l }
+    ensures ok { IfOk result (λ p. p.number ≡ done) }
 {
     if DEVICES <= device as usize {
-        return idle(NO_SUCH_DEVICE, l);
+        return Err(Refusal::NoSuchDevice);
     }
     if repeats(device, value, l) {
-        return idle(REPEATED, l);
+        return Err(Refusal::Repeated);
     }
-    let u = next_timer(now, t);
-    let bits = event_bits(now, t);
-    let n = valued(device, value, l);
-    keeping(u, feed(now, false, bits, n))
+    Ok(Plan {
+        timer: next_timer(now, t),
+        keeps: true,
+        ..feed(now, false, event_bits(now, t), valued(device, value, l))
+    })
 }
 
 // The fast pool is stirred, and that is all.
@@ -160,63 +131,79 @@ fn stays(now: u32, l: Ledger) -> bool
     requires { l.spill.tally ≤ 63 }
     ensures { result ≡ stays now l }
 {
-    (l.spill.tally + 1 < 64) & !exceeds(now, l.spill.clock, 1000)
+    l.spill.tally + 1 < 64 && !exceeds(now, l.spill.clock, 1000)
 }
 
 fn tallied(l: Ledger) -> Ledger
     requires { l.spill.tally ≤ 63 }
     ensures { result ≡ tallied l }
 {
-    let more = l.spill.tally + 1;
-    let mut n = l;
-    n.spill.tally = more;
-    n
+    Ledger {
+        spill: Spill {
+            tally: l.spill.tally + 1,
+            ..l.spill
+        },
+        ..l
+    }
 }
 
 fn spilled(now: u32, l: Ledger) -> Ledger
     ensures { result ≡ spilled now l }
 {
-    let mut n = l;
-    n.spill.tally = 0;
-    n.spill.clock = now;
-    n
+    Ledger {
+        spill: Spill {
+            tally: 0,
+            clock: now,
+        },
+        ..l
+    }
 }
 
 fn plan_interrupt(now: u32, l: Ledger) -> Plan
     requires { (l.spill.tally ≤ 63) × (l.input.count ≤ input_size) }
-    ensures { result ≡ plan_interrupt now l }
+    ensures value { result ≡ plan_interrupt now l }
+    ensures number { result.number ≡ done }
 {
     if stays(now, l) {
-        return plan_of(DONE, tallied(l), 0, true, false, 0, 0, 0, 0);
+        return Plan {
+            stirs: true,
+            ..idle(tallied(l))
+        };
     }
     feed(now, true, 1, spilled(now, l))
 }
 
-fn plan_write(len: usize, l: Ledger) -> Plan
-    ensures { result ≡ plan_write len l }
+fn plan_write(len: usize, l: Ledger) -> Result<Plan, Refusal>
+    ensures value { plan_or_idle l result ≡ plan_write len l }
+    ensures ok { IfOk result (λ p. p.number ≡ done) }
 {
     if LONGEST < len {
-        return idle(TOO_LONG, l);
+        return Err(Refusal::TooLong);
     }
-    plan_of(DONE, l, 0, false, true, 0, 0, 0, 0)
+    Ok(Plan {
+        feeds: true,
+        ..idle(l)
+    })
 }
 
-fn plan_seed(now: u32, len: usize, bits: u32, l: Ledger) -> Plan
+fn plan_seed(now: u32, len: usize, bits: u32, l: Ledger) -> Result<Plan, Refusal>
     requires { l.input.count ≤ input_size }
-    ensures { result ≡ plan_seed now len bits l }
+    ensures value { plan_or_idle l result ≡ plan_seed now len bits l }
+    ensures ok { IfOk result (λ p. p.number ≡ done) }
 {
     if LONGEST < len {
-        return idle(TOO_LONG, l);
+        return Err(Refusal::TooLong);
     }
     if 8 * len < bits as usize {
-        return idle(CREDIT_TOO_HIGH, l);
+        return Err(Refusal::CreditTooHigh);
     }
-    feed(now, false, bits, l)
+    Ok(feed(now, false, bits, l))
 }
 
 // The bytes that a reseed before a read takes, if it is due.
 fn reseed_first(now: u32, l: Ledger) -> u32
-    ensures { (result ≡ pick (reseed_due now l) (reseed_takes l.input.count) 0) × (64 * result ≤ l.input.count) }
+    ensures value { result ≡ pick (reseed_due now l) (reseed_takes l.input.count) 0 }
+    ensures held { 64 * result ≤ l.input.count }
 {
     if exceeds(now, l.seeding.clock, 300000) {
         return debit(32, 16, l.input.count);
@@ -224,40 +211,40 @@ fn reseed_first(now: u32, l: Ledger) -> u32
     0
 }
 
-fn plan_read(now: u32, len: usize, l: Ledger) -> Plan
-    ensures { result ≡ plan_read now len l }
+fn plan_read(now: u32, len: usize, l: Ledger) -> Result<Plan, Refusal>
+    ensures value { plan_or_idle l result ≡ plan_read now len l }
+    ensures ok { IfOk result (λ p. p.number ≡ done) }
 {
     if LONGEST < len {
-        return idle(TOO_LONG, l);
+        return Err(Refusal::TooLong);
     }
     if len == 0 {
-        return idle(DONE, l);
+        return Ok(idle(l));
     }
     if l.seeding.mark != 1 {
-        return idle(UNSEEDED, l);
+        return Err(Refusal::Unseeded);
     }
-    let t = reseed_first(now, l);
-    let n = reseeding(now, l.input.count, t, l);
-    plan_of(DONE, n, 0, false, false, t, 0, 0, len as u32)
+    let reseed = reseed_first(now, l);
+    Ok(Plan {
+        reseed,
+        stream: len as u32,
+        ..idle(reseeding(now, l.input.count, reseed, l))
+    })
 }
 
 // What a blocking read of n asks of the input pool.
 fn wanted(n: u32) -> u32
     ensures { result ≡ min (max n 8) 128 }
 {
-    if n < 8 {
-        return 8;
-    }
-    if 128 < n {
-        return 128;
-    }
-    n
+    n.max(8).min(128)
 }
 
 // The bytes that a blocking read of n brings over from the input pool, of which 8 is the least.
 fn transferred(n: u32, l: Ledger) -> u32
     requires { n ≤ longest }
-    ensures { (result ≡ transferred n l) × ((64 * result ≤ l.input.count) × (result ≤ 128)) }
+    ensures value { result ≡ transferred n l }
+    ensures held { 64 * result ≤ l.input.count }
+    ensures upper_bound { result ≤ 128 }
 {
     if l.blocking.count < 64 * n {
         return debit(wanted(n), 8, l.input.count);
@@ -269,112 +256,129 @@ fn transferred(n: u32, l: Ledger) -> u32
 fn is_low(l: Ledger) -> bool
     ensures { result ≡ is_low l }
 {
-    (l.blocking.count < 64) & (l.input.count < 512)
+    l.blocking.count < 64 && l.input.count < 512
 }
 
 // The counts become these.
 fn with_counts(i: u32, b: u32, l: Ledger) -> Ledger
     ensures { result ≡ blocking_counts b (input_counts i l) }
 {
-    let mut n = l;
-    n.input.count = i;
-    n.blocking.count = b;
-    n
+    Ledger {
+        input: Gauge {
+            count: i,
+            ..l.input
+        },
+        blocking: Gauge {
+            count: b,
+            ..l.blocking
+        },
+        ..l
+    }
 }
 
-fn plan_blocking_read(len: usize, l: Ledger) -> Plan
+fn plan_blocking_read(len: usize, l: Ledger) -> Result<Plan, Refusal>
     requires { l.blocking.count ≤ blocking_size }
-    ensures { result ≡ plan_blocking_read len l }
+    ensures value { plan_or_idle l result ≡ plan_blocking_read len l }
+    ensures ok { IfOk result (λ p. p.number ≡ done) }
 {
     if LONGEST < len {
-        return idle(TOO_LONG, l);
+        return Err(Refusal::TooLong);
     }
     if len == 0 {
-        return idle(DONE, l);
+        return Ok(idle(l));
     }
     if is_low(l) {
-        return idle(WOULD_BLOCK, l);
+        return Err(Refusal::WouldBlock);
     }
     let n = len as u32;
-    let t = transferred(n, l);
-    let c = credit(BLOCKING_SIZE, l.blocking.count, 8 * t);
-    let d = debit(n, 0, c.count);
-    let m = with_counts(l.input.count - 64 * t, c.count - 64 * d, l);
-    plan_of(DONE, m, c.added, false, false, 0, t, d, 0)
+    let transfer = transferred(n, l);
+    let refilled = credit(BLOCKING_SIZE, l.blocking.count, 8 * transfer);
+    let deliver = debit(n, 0, refilled.count);
+    let left = l.input.count - 64 * transfer;
+    Ok(Plan {
+        added: refilled.added,
+        transfer,
+        deliver,
+        ..idle(with_counts(left, refilled.count - 64 * deliver, l))
+    })
 }
 
 // ---- what code above calls, with any values
 
 // In range: what is decided from, and, by `others`, what it is not decided from.
-fn fine(others: bool, l: Ledger, t: Timer) -> bool
-    ensures { result ≡ (others && (ledger_in_range l && timer_in_range t)) }
+fn in_range(others: bool, l: Ledger, t: Timer) -> Result<(), Refusal>
+    ensures { let fine = others && (ledger_in_range l && timer_in_range t) in MatchResult result (λ _. IsTrue fine) (λ why. IsFalse fine × (why ≡ OutOfRange)) }
 {
-    others & (ledger_in_range(l) & timer_in_range(t))
-}
-
-// The same for a call that has no device: it is decided with a timer that no event touched.
-fn fine_untimed(others: bool, l: Ledger) -> bool
-    ensures { result ≡ (others && (ledger_in_range l && timer_in_range fresh_timer)) }
-{
-    fine(others, l, fresh_timer())
+    if others & (ledger_in_range(l) & timer_in_range(t)) {
+        Ok(())
+    } else {
+        Err(Refusal::OutOfRange)
+    }
 }
 
 // A device event. `others` is the range test of what the ledger does not hold (`others_in_range`).
-pub fn decide_event(others: bool, l: Ledger, t: Timer, device: u32, now: u32, value: u32) -> Plan
-    ensures { result ≡ decide others l t (event device now value) }
+pub fn decide_event(
+    others: bool,
+    l: Ledger,
+    t: Timer,
+    device: u32,
+    now: u32,
+    value: u32,
+) -> Result<Plan, Refusal>
+    ensures value { plan_or_idle l result ≡ decide others l t (event device now value) }
+    ensures ok { IfOk result (λ p. p.number ≡ done) }
 {
-    if fine(others, l, t) {
-        return plan_event(device, now, value, t, l);
-    }
-    idle(OUT_OF_RANGE, l)
+    in_range(others, l, t)?;
+    plan_event(device, now, value, t, l)
 }
 
-// An interrupt.
-pub fn decide_interrupt(others: bool, l: Ledger, now: u32, number: u32) -> Plan
-    ensures { result ≡ decide others l fresh_timer (interrupt now number) }
+// An interrupt. A call that has no device is decided with a timer that no event touched, here and below.
+pub fn decide_interrupt(others: bool, l: Ledger, now: u32, number: u32) -> Result<Plan, Refusal>
+    ensures value { plan_or_idle l result ≡ decide others l fresh_timer (interrupt now number) }
+    ensures ok { IfOk result (λ p. p.number ≡ done) }
 {
-    if fine_untimed(others, l) {
-        return plan_interrupt(now, l);
-    }
-    idle(OUT_OF_RANGE, l)
+    in_range(others, l, fresh_timer())?;
+    Ok(plan_interrupt(now, l))
 }
 
 // A write of so many bytes.
-pub fn decide_write(others: bool, l: Ledger, len: usize) -> Plan
-    ensures { result ≡ decide others l fresh_timer (write len) }
+pub fn decide_write(others: bool, l: Ledger, len: usize) -> Result<Plan, Refusal>
+    ensures value { plan_or_idle l result ≡ decide others l fresh_timer (write len) }
+    ensures ok { IfOk result (λ p. p.number ≡ done) }
 {
-    if fine_untimed(others, l) {
-        return plan_write(len, l);
-    }
-    idle(OUT_OF_RANGE, l)
+    in_range(others, l, fresh_timer())?;
+    plan_write(len, l)
 }
 
 // A seed of so many bytes with so many bits.
-pub fn decide_seed(others: bool, l: Ledger, now: u32, len: usize, credit: u32) -> Plan
-    ensures { result ≡ decide others l fresh_timer (seed now len credit) }
+pub fn decide_seed(
+    others: bool,
+    l: Ledger,
+    now: u32,
+    len: usize,
+    credit: u32,
+) -> Result<Plan, Refusal>
+    ensures value { plan_or_idle l result ≡ decide others l fresh_timer (seed now len credit) }
+    ensures ok { IfOk result (λ p. p.number ≡ done) }
 {
-    if fine_untimed(others, l) {
-        return plan_seed(now, len, credit, l);
-    }
-    idle(OUT_OF_RANGE, l)
+    in_range(others, l, fresh_timer())?;
+    plan_seed(now, len, credit, l)
 }
 
 // A generator read into a room of so many bytes.
-pub fn decide_read(others: bool, l: Ledger, now: u32, len: usize) -> Plan
-    ensures { result ≡ decide others l fresh_timer (read now len) }
+pub fn decide_read(others: bool, l: Ledger, now: u32, len: usize) -> Result<Plan, Refusal>
+    ensures value { plan_or_idle l result ≡ decide others l fresh_timer (read now len) }
+    ensures ok { IfOk result (λ p. p.number ≡ done) }
 {
-    if fine_untimed(others, l) {
-        return plan_read(now, len, l);
-    }
-    idle(OUT_OF_RANGE, l)
+    in_range(others, l, fresh_timer())?;
+    plan_read(now, len, l)
 }
 
 // A blocking read into a room of so many bytes.
-pub fn decide_blocking_read(others: bool, l: Ledger, len: usize) -> Plan
-    ensures { result ≡ decide others l fresh_timer (blocking_read len) }
+pub fn decide_blocking_read(others: bool, l: Ledger, len: usize) -> Result<Plan, Refusal>
+    ensures value { plan_or_idle l result ≡ decide others l fresh_timer (blocking_read len) }
+    ensures ok { IfOk result (λ p. p.number ≡ done) }
 {
-    if fine_untimed(others, l) {
-        return plan_blocking_read(len, l);
-    }
-    idle(OUT_OF_RANGE, l)
+    in_range(others, l, fresh_timer())?;
+    plan_blocking_read(len, l)
 }

@@ -1,12 +1,10 @@
 -- The bytes that go into a pool, written out as the code lays them.
-use mathlib.Core.Path.{◌≡◌, refl, sym, ap, ◌∙◌}
+use mathlib.Core.Path.{◌≡◌, refl, sym, ap}
 use mathlib.Core.List.{List, [], ◌∷◌, ◌++◌, append_assoc, append-nil}
-use Prim.Native.Nat.{ℕ, zero, suc, ◌*◌, ◌/◌, ◌%◌, ◌^◌, ◌≤◌, ◌<◌}
+use Prim.Native.Nat.{ℕ, zero, suc, ◌*◌, ◌/◌, ◌%◌, ◌^◌, ◌<◌}
 use native.Mathlib.Omega.{arith}
 use lib.Arith.{digits_div, digits_mod, mod-mul}
-use lib.ListN.{length, take}
 use lib.Pow.{pow_pos}
-use lib.Seq.{length-take-le, take_at}
 use Rattle.words.specs.Bytes.{le_bytes, words_bytes, bytes_words}
 use Rattle.ledger.specs.Shapes.{Shape}
 use Rattle.pool.specs.Mixing.{Pool}
@@ -44,16 +42,6 @@ pub event-words : (stamp now value : ℕ) → words_bytes (stamp % 2 ^ 32 ∷ st
 unfolding words_bytes
 event-words stamp now value =
     rw (low_bytes 4 stamp, append-nil (le_bytes 4 value), ← append_assoc (le_bytes 4 stamp) (le_bytes 4 (stamp / 2 ^ 32)) (le_bytes 4 now ++ le_bytes 4 value), halves stamp)
-
--- ---- the front of a room, after n bytes were extracted into it
-module _ (sh : Shape) (p : Pool) (n : ℕ) (room bs : List ℕ) (fits : n ≤ length room) (e : bs ≡ (extract sh (length (take n room)) p).bytes) where
-  pub front_bytes : (rest : List ℕ) → take n (bs ++ rest) ≡ (extract sh n p).bytes
-  front_bytes rest =
-      let b = rw (length-take-le n room fits) at e in
-      take_at bs rest n (ap length b ∙ (laws sh).take-length n p) ∙ b
-
-  pub front_length : (rest : List ℕ) → n ≡ length (take n (bs ++ rest))
-  front_length rest = sym (ap length (front_bytes rest) ∙ (laws sh).take-length n p)
 
 -- ---- a reseed that takes nothing
 pub none_out : (sh : Shape) (t : ℕ) (q : Pool) → t ≡ 0 → ◌≡◌ {A = Extract} (record { bytes = []; pool = q; runs = 0 }) (extract sh t q)

@@ -6,32 +6,28 @@
 
 ghost use Rattle.std.specs.Prelude.{◌≡◌, ◌++◌, ◌≤◌, length, drop};
 ghost use Rattle.words.specs.Bytes.{words_bytes};
-ghost use Rattle.ledger.specs.Sizes.{input_words, generator_words};
+ghost use Rattle.ledger.specs.Sizes.{generator_words};
 ghost use Rattle.pool.specs.Mixing.{mix};
 ghost use Rattle.pool.specs.Extracting.{extract};
-ghost use Rattle.mixer.specs.Sizes.{shape_of, InPool};
+ghost use Rattle.mixer.specs.Pools.{pool_of, shape};
 ghost use Rattle.keeper.specs.Generator.{onto_key};
 ghost use Rattle.keeper.specs.Calls.{event_bytes};
 
 use generator::onto_key;
-use ledger::Spot;
-use mixer::{extract, mix, mix_words};
+use mixer::Pool;
 
 // A call's bytes go into a pool.
-pub fn feed(ws: &mut [u32], s: Spot, bytes: &[u8]) -> Spot
-    requires { InPool (length ws.old) s }
-    ensures result_after { (record { words = ws.new; spot = result }) ≡ mix (shape_of (length ws.old)) (record { words = ws.old; spot = s }) bytes.now }
-    ensures in_pool { InPool (length ws.old) result }
+pub fn feed<const N: usize>(pool: &mut Pool<N>, bytes: &[u8])
+    ensures same_words { pool.new.words.ghost_name ≡ pool.old.words.ghost_name }
+    ensures pool_after { pool_of pool.new ≡ mix (shape pool.old) (pool_of pool.old) bytes.now }
 {
-    mix(ws, s, &bytes[..])
+    pool.mix(&bytes[..]);
 }
 
 // An event's stamp, clock and value go into a pool.
-pub fn feed_event(ws: &mut [u32], s: Spot, stamp: u64, at: u32, value: u32) -> Spot
-    requires in_pool { InPool (length ws.old) s }
-    requires ws_len { length ws.old ≡ input_words }
-    ensures result_after { (record { words = ws.new; spot = result }) ≡ mix (shape_of (length ws.old)) (record { words = ws.old; spot = s }) (event_bytes stamp at value) }
-    ensures in_pool_2 { InPool (length ws.old) result }
+pub fn feed_event<const N: usize>(pool: &mut Pool<N>, stamp: u64, at: u32, value: u32)
+    ensures same_words { pool.new.words.ghost_name ≡ pool.old.words.ghost_name }
+    ensures pool_after { pool_of pool.new ≡ mix (shape pool.old) (pool_of pool.old) (event_bytes stamp at value) }
 {
     let w = [
         (stamp % 0x1_0000_0000) as u32,
@@ -39,103 +35,55 @@ pub fn feed_event(ws: &mut [u32], s: Spot, stamp: u64, at: u32, value: u32) -> S
         at,
         value,
     ];
-    mix_words(ws, s, &w)
+    pool.mix_words(&w);
 }
 
 // The fast pool's words go into a pool.
-pub fn spill(ws: &mut [u32], s: Spot, f: &[u32]) -> Spot
-    requires in_pool { InPool (length ws.old) s }
-    requires ws_len { length ws.old ≡ input_words }
-    ensures result_after { (record { words = ws.new; spot = result }) ≡ mix (shape_of (length ws.old)) (record { words = ws.old; spot = s }) (words_bytes f.now) }
-    ensures in_pool_2 { InPool (length ws.old) result }
+pub fn spill<const N: usize>(pool: &mut Pool<N>, f: &[u32])
+    ensures same_words { pool.new.words.ghost_name ≡ pool.old.words.ghost_name }
+    ensures pool_after { pool_of pool.new ≡ mix (shape pool.old) (pool_of pool.old) (words_bytes f.now) }
 {
-    mix_words(ws, s, &f[..])
-}
-
-// Bytes taken from a pool go onto the key, through the front of a room.
-fn reseed_through(ws: &mut [u32], s: Spot, g: &mut [u32], room: &mut [u8], n: usize) -> Spot
-    requires in_pool { InPool (length ws.old) s }
-    requires g_len { length g.old ≡ generator_words }
-    requires n_bound { (n ≤ 32) × (n ≤ length room.old) }
-    ensures ws_after { ws.new ≡ (extract (shape_of (length ws.old)) n (record { words = ws.old; spot = s })).pool.words }
-    ensures value { result ≡ (extract (shape_of (length ws.old)) n (record { words = ws.old; spot = s })).pool.spot }
-    ensures g_after { g.new ≡ onto_key (extract (shape_of (length ws.old)) n (record { words = ws.old; spot = s })).bytes g.old }
-{
-    let r = extract(ws, s, &mut room[..n]);
-    onto_key(g, &room[..n]);
-    r
+    pool.mix_words(&f[..]);
 }
 
 // A reseed of so many bytes; of none, nothing changes.
-pub fn reseed(ws: &mut [u32], s: Spot, g: &mut [u32], t: u32) -> Spot
-    requires in_pool { InPool (length ws.old) s }
+pub fn reseed<const N: usize>(pool: &mut Pool<N>, g: &mut [u32], t: u32)
     requires g_len { length g.old ≡ generator_words }
     requires t_bound { t ≤ 32 }
-    ensures ws_after { ws.new ≡ (extract (shape_of (length ws.old)) t (record { words = ws.old; spot = s })).pool.words }
-    ensures value { result ≡ (extract (shape_of (length ws.old)) t (record { words = ws.old; spot = s })).pool.spot }
-    ensures g_after { g.new ≡ onto_key (extract (shape_of (length ws.old)) t (record { words = ws.old; spot = s })).bytes g.old }
+    ensures same_words { pool.new.words.ghost_name ≡ pool.old.words.ghost_name }
+    ensures pool_after { pool_of pool.new ≡ (extract (shape pool.old) t (pool_of pool.old)).pool }
+    ensures g_after { g.new ≡ onto_key (extract (shape pool.old) t (pool_of pool.old)).bytes g.old }
 {
     if t == 0 {
-        return s;
+        return;
     }
+    let n = t as usize;
     let mut room = [0u8; 32];
-    reseed_through(ws, s, g, &mut room, t as usize)
-}
-
-// Where the next bytes of both pools go.
-#[derive(Drop)]
-pub struct Spots {
-    pub input: Spot,
-    pub blocking: Spot,
-}
-
-// Bytes taken from one pool are mixed into another, through the front of a room.
-fn transfer_through(
-    from: &mut [u32],
-    s: Spot,
-    into: &mut [u32],
-    q: Spot,
-    room: &mut [u8],
-    n: usize,
-) -> Spots
-    requires in_pool { InPool (length from.old) s }
-    requires in_pool_2 { InPool (length into.old) q }
-    requires n_in_bounds { n ≤ length room.old }
-    ensures from_after { from.new ≡ (extract (shape_of (length from.old)) n (record { words = from.old; spot = s })).pool.words }
-    ensures input_value { result.input ≡ (extract (shape_of (length from.old)) n (record { words = from.old; spot = s })).pool.spot }
-    ensures blocking_after { (record { words = into.new; spot = result.blocking }) ≡ mix (shape_of (length into.old)) (record { words = into.old; spot = q }) (extract (shape_of (length from.old)) n (record { words = from.old; spot = s })).bytes }
-    ensures in_pool_3 { InPool (length into.old) result.blocking }
-{
-    let i = extract(from, s, &mut room[..n]);
-    let b = mix(into, q, &room[..n]);
-    Spots {
-        input: i,
-        blocking: b,
-    }
+    pool.extract(&mut room[..n]);
+    onto_key(g, &room[..n]);
 }
 
 // A transfer of so many bytes from the input pool into the blocking pool.
-pub fn transfer(from: &mut [u32], s: Spot, into: &mut [u32], q: Spot, t: u32) -> Spots
-    requires in_pool { InPool (length from.old) s }
-    requires in_pool_2 { InPool (length into.old) q }
-    requires t_bound { t ≤ 128 }
-    ensures from_after { from.new ≡ (extract (shape_of (length from.old)) t (record { words = from.old; spot = s })).pool.words }
-    ensures input_value { result.input ≡ (extract (shape_of (length from.old)) t (record { words = from.old; spot = s })).pool.spot }
-    ensures blocking_after { (record { words = into.new; spot = result.blocking }) ≡ mix (shape_of (length into.old)) (record { words = into.old; spot = q }) (extract (shape_of (length from.old)) t (record { words = from.old; spot = s })).bytes }
-    ensures in_pool_3 { InPool (length into.old) result.blocking }
+pub fn transfer<const N: usize, const M: usize>(from: &mut Pool<N>, into: &mut Pool<M>, t: u32)
+    requires { t ≤ 128 }
+    ensures from_words { from.new.words.ghost_name ≡ from.old.words.ghost_name }
+    ensures from_after { pool_of from.new ≡ (extract (shape from.old) t (pool_of from.old)).pool }
+    ensures into_words { into.new.words.ghost_name ≡ into.old.words.ghost_name }
+    ensures into_after { pool_of into.new ≡ mix (shape into.old) (pool_of into.old) (extract (shape from.old) t (pool_of from.old)).bytes }
 {
+    let n = t as usize;
     let mut room = [0u8; 128];
-    transfer_through(from, s, into, q, &mut room, t as usize)
+    from.extract(&mut room[..n]);
+    into.mix(&room[..n]);
 }
 
 // So many bytes taken from a pool are laid into the front of the room; what stands past them stays.
-pub fn deliver(ws: &mut [u32], s: Spot, out: &mut [u8], d: u32) -> Spot
-    requires in_pool { InPool (length ws.old) s }
-    requires d_in_bounds { d ≤ length out.old }
-    ensures ws_after { ws.new ≡ (extract (shape_of (length ws.old)) d (record { words = ws.old; spot = s })).pool.words }
-    ensures value { result ≡ (extract (shape_of (length ws.old)) d (record { words = ws.old; spot = s })).pool.spot }
-    ensures out_after { out.new ≡ (extract (shape_of (length ws.old)) d (record { words = ws.old; spot = s })).bytes ++ drop d out.old }
+pub fn deliver<const N: usize>(pool: &mut Pool<N>, out: &mut [u8], d: u32)
+    requires { d ≤ length out.old }
+    ensures same_words { pool.new.words.ghost_name ≡ pool.old.words.ghost_name }
+    ensures pool_after { pool_of pool.new ≡ (extract (shape pool.old) d (pool_of pool.old)).pool }
+    ensures out_after { out.new ≡ (extract (shape pool.old) d (pool_of pool.old)).bytes ++ drop d out.old }
 {
     let n = d as usize;
-    extract(ws, s, &mut out[..n])
+    pool.extract(&mut out[..n]);
 }

@@ -1,5 +1,5 @@
 -- The bytes that change the key: of the last block of a read, or of one block more.
-use Rattle.std.proofs.Common.{◌≡◌, ℕ, suc, ◌+◌, ◌-◌, ◌*◌, ◌<◌, ◌≤◌, List, [], ◌∷◌, length, take, drop, sym, refl, ap, ◌∙◌, arith, le-ltb, lt-ltb}
+use Rattle.std.proofs.Common.{◌≡◌, ℕ, suc, ◌+◌, ◌-◌, ◌*◌, ◌<◌, ◌≤◌, List, [], ◌∷◌, length, take, drop, sym, refl, ap, arith, le-ltb, lt-ltb}
 use lib.Seq.{drop-append-add, take-append-le}
 use Rattle.words.specs.Bytes.{bytes_words}
 use Rattle.chacha.specs.Chacha.{chacha_block, serialize}
@@ -7,12 +7,8 @@ use Rattle.ledger.specs.Choice.{pick}
 use Rattle.ledger.specs.Streams.{whole_blocks, used_up, one_more}
 use Rattle.ledger.proofs.Picks.{pick_both}
 use Rattle.keeper.specs.Generator.{xor_at, onto_key, counted, stream, generated}
-use Rattle.keeper.proofs.Counter.{stream-length, stream_keeps_length, stream-more}
+use Rattle.keeper.proofs.Counter.{stream-length, stream-more}
 use Rattle.keeper.proofs.KeyChange.{further_key}
-
--- a generator has as many words after a stream as before
-pub as_many : (n : ℕ) (g t : List ℕ) → t ≡ (stream n g).generator → length t ≡ 16 → length g ≡ 16
-as_many n g t et lt = sym (stream_keeps_length n g) ∙ ap length (sym et) ∙ lt
 
 -- a read's bytes: those of the blocks that meet its length, one block more or not
 pub read-bytes : (len : ℕ) (g : List ℕ) → length g ≡ 16 → (generated len g).bytes ≡ take len (stream (whole_blocks len) g).bytes
@@ -40,12 +36,12 @@ last_bytes : (n w u : ℕ) (g : List ℕ) → length g ≡ 16 → n ≡ suc w �
 last_bytes n w u g lg en = rw (en, stream-more w g, ← stream-length w g lg) (drop-append-add (stream w g).bytes _ u)
 
 -- the key changed from what the last block has left
-pub read-within : (len : ℕ) (g t b r : List ℕ) → length g ≡ 16 → 1 ≤ len → used_up len + 32 ≤ 64
+pub read-within : (len : ℕ) (g t b r : List ℕ) (u n : ℕ) → length g ≡ 16 → 1 ≤ len → used_up len + 32 ≤ 64
     → t ≡ (stream (whole_blocks len) g).generator → b ≡ serialize (chacha_block (stream (whole_blocks len - 1) g).generator)
-    → r ≡ onto_key (take 32 (drop (used_up len) b)) t
+    → u ≡ used_up len → n ≡ 32 → r ≡ onto_key (take n (drop u b)) t
     → r ≡ (generated len g).generator
 unfolding generated pick
-read-within len g t b r lg one h et eb er =
+read-within len g t b r u n lg one h et eb eu en er =
     let e : whole_blocks len ≡ suc (whole_blocks len - 1) = omega arith in
-    rw (le-ltb 64 (used_up len + 32) h, er, et, eb)
+    rw (le-ltb 64 (used_up len + 32) h, er, et, eb, eu, en)
     (ap (λ (l : List ℕ). onto_key (take 32 l) (stream (whole_blocks len) g).generator) (sym (last_bytes (whole_blocks len) (whole_blocks len - 1) (used_up len) g lg e)))

@@ -1,7 +1,7 @@
 -- The key stream block by block, and its bytes laid over a room.
-use Rattle.std.proofs.Common.{◌≡◌, ℕ, zero, suc, ◌+◌, ◌-◌, ◌*◌, ◌<◌, ◌≤◌, List, [], ◌∷◌, ◌++◌, length, take, drop, sym, refl, ap, ◌∙◌, append-nil, arith, length-drop, drop_of_length-le, take_all}
+use Rattle.std.proofs.Common.{◌≡◌, ℕ, zero, suc, ◌+◌, ◌-◌, ◌*◌, ◌<◌, ◌≤◌, List, [], ◌∷◌, ◌++◌, length, take, drop, sym, refl, ap, ◌∙◌, append-nil, add-one, arith, length-drop, length-take-le, drop_of_length-le, take_all}
 use lib.Seq.{sets}
-use Rattle.words.proofs.Rooms.{sets-append, sets-cons, sets_none, sets_over, sets_whole}
+use Rattle.words.proofs.Rooms.{sets-append, sets-front, sets-cons, sets_none, sets_over, sets_whole}
 use Rattle.chacha.specs.Chacha.{chacha_block, serialize}
 use Rattle.chacha.proofs.Lengths.{length_serialized}
 use Rattle.ledger.specs.Streams.{whole_blocks}
@@ -23,55 +23,60 @@ sets_part k l part vs e =
     let p : part ≡ sets (drop k l) 0 vs = rw (take_all (length l - k) (drop k l) n) at e in
     rw (p, drop_of_length-le (drop k l) n, append-nil (sets (drop k l) 0 vs)) (sets_back k l vs)
 
+-- as many bytes as a room has places for: all of it, or its front
+pub over_all : (l vs w : List ℕ) → w ≡ take (length l) vs → length l ≤ length vs → w ≡ sets l 0 vs
+over_all l vs w e h = e ∙ sym (sets_over l vs h)
+
+pub over_front : (n : ℕ) (l vs w : List ℕ) → w ≡ vs → length vs ≡ n → n ≤ length l → w ++ drop n l ≡ sets l 0 vs
+over_front n l vs w e k h =
+    let f : length (take n l) ≡ length vs = length-take-le n l h ∙ sym k in
+    rw (e, ← sets-front n l 0 vs (omega arith), sets_whole (take n l) vs f)
+
 -- over a room of 64 bytes, a block's bytes: that is all the room then has
 pub whole_block : (s room b : List ℕ) → length s ≡ 16 → length room ≡ 64 → b ≡ sets room 0 (serialize (chacha_block s)) → b ≡ serialize (chacha_block s)
 whole_block s room b ls lr e =
     let n : length (serialize (chacha_block s)) ≡ 64 = length_serialized s ls in
     e ∙ sets_whole room (serialize (chacha_block s)) (omega arith)
 
--- ---- a room into which whole blocks are laid, k bytes so far
-pub record Filled (g start out s : List ℕ) (k : ℕ) : Type 0 where
-  pub made : ℕ
-  pub place : k ≡ 64 * made
-  pub moved : s ≡ (stream made g).generator
-  pub laid : out ≡ sets start 0 (stream made g).bytes
+-- ---- a room into which n whole blocks are laid
+pub record Filled (g start out s : List ℕ) (n : ℕ) : Type 0 where
+  pub moved : s ≡ (stream n g).generator
+  pub laid : out ≡ sets start 0 (stream n g).bytes
 
 -- none is laid
 pub filled_none : (g start : List ℕ) → Filled g start start g 0
 unfolding stream
-filled_none g start = record { made = 0; place = refl; moved = refl; laid = refl }
+filled_none g start = record { moved = refl; laid = refl }
 
 -- one more is laid
-more : (g start out s n over : List ℕ) (k : ℕ) → length s ≡ 16 → n ≡ counted s → over ≡ sets out k (serialize (chacha_block s)) → Filled g start out s k → Filled g start over n (k + 64)
-more g start out s n over k ls en eo f =
-    let j : ℕ = f.made in
-    let lg : length g ≡ 16 = sym (stream_keeps_length j g) ∙ ap length (sym f.moved) ∙ ls in
-    let e : k ≡ 0 + length (stream j g).bytes = omega (arith, stream-length j g lg, f.place) in
+more : (g start out s next over : List ℕ) (n : ℕ) → length s ≡ 16 → next ≡ counted s → over ≡ sets out (64 * n) (serialize (chacha_block s)) → Filled g start out s n
+    → Filled g start over next (n + 1)
+more g start out s next over n ls en eo f =
+    let lg : length g ≡ 16 = sym (stream_keeps_length n g) ∙ ap length (sym f.moved) ∙ ls in
+    let e : 64 * n ≡ 0 + length (stream n g).bytes = omega (arith, stream-length n g lg) in
     record {
-      made = suc j;
-      place = omega (arith, f.place);
-      moved = rw (en, f.moved) (sym (stream_counts j g));
-      laid = rw (eo, f.laid, e, f.moved, stream-more j g) (sets-append start 0 (stream j g).bytes _);
+      moved = rw (add-one, en, f.moved) (sym (stream_counts n g));
+      laid = rw (add-one, eo, f.laid, e, f.moved, stream-more n g) (sets-append start 0 (stream n g).bytes _);
     }
 
--- .. as the code has it, over the part of the room from k on
-pub filled_more : (g start out s part n : List ℕ) (k : ℕ) → length s ≡ 16 → n ≡ counted s
-    → part ≡ sets (take (length out - k) (drop k out)) 0 (serialize (chacha_block s)) → Filled g start out s k
-    → Filled g start (take k out ++ (part ++ drop (length out - k) (drop k out))) n (k + 64)
-filled_more g start out s part n k ls en ep f = more g start out s n _ k ls en (sets_part k out part (serialize (chacha_block s)) ep) f
+-- .. as the code has it, over the part of the room that is left
+pub filled_more : (g start out s part next : List ℕ) (n : ℕ) → length s ≡ 16 → next ≡ counted s
+    → part ≡ sets (take (length out - 64 * n) (drop (64 * n) out)) 0 (serialize (chacha_block s)) → Filled g start out s n
+    → Filled g start (take (64 * n) out ++ (part ++ drop (length out - 64 * n) (drop (64 * n) out))) next (n + 1)
+filled_more g start out s part next n ls en ep f = more g start out s next _ n ls en (sets_part (64 * n) out part (serialize (chacha_block s)) ep) f
 
 -- the last is laid, by way of a room of 64 bytes, and the room is full
-pub filled_all : (g start out s part n room last : List ℕ) (k : ℕ) → length s ≡ 16 → length room ≡ 64 → k < length start → length start ≤ k + 64
-    → n ≡ counted s → last ≡ sets room 0 (serialize (chacha_block s)) → part ≡ sets (take (length out - k) (drop k out)) 0 last → Filled g start out s k
-    → (take k out ++ (part ++ drop (length out - k) (drop k out)) ≡ take (length start) (stream (whole_blocks (length start)) g).bytes)
-    × ((n ≡ (stream (whole_blocks (length start)) g).generator)
+pub filled_all : (g start out s part next room last : List ℕ) (n : ℕ) → length s ≡ 16 → length room ≡ 64 → 64 * n < length start → length start ≤ 64 * n + 64
+    → next ≡ counted s → last ≡ sets room 0 (serialize (chacha_block s)) → part ≡ sets (take (length out - 64 * n) (drop (64 * n) out)) 0 last → Filled g start out s n
+    → (take (64 * n) out ++ (part ++ drop (length out - 64 * n) (drop (64 * n) out)) ≡ take (length start) (stream (whole_blocks (length start)) g).bytes)
+    × ((next ≡ (stream (whole_blocks (length start)) g).generator)
     × (last ≡ serialize (chacha_block (stream (whole_blocks (length start) - 1) g).generator)))
 unfolding more
-filled_all g start out s part n room last k ls lr lo hi en er ep f =
+filled_all g start out s part next room last n ls lr lo hi en er ep f =
     let el = whole_block s room last ls lr er in
-    let a = more g start out s n _ k ls en (sets_part k out part (serialize (chacha_block s)) (rw el at ep)) f in
-    let lg : length g ≡ 16 = sym (stream_keeps_length f.made g) ∙ ap length (sym f.moved) ∙ ls in
-    let w : whole_blocks (length start) ≡ suc f.made = omega (arith, f.place) in
-    let d : suc f.made - 1 ≡ f.made = omega arith in
-    let le : length start ≤ length (stream (suc f.made) g).bytes = omega (arith, stream-length (suc f.made) g lg, f.place) in
-    rw (w, d) (a.laid ∙ sets_over start (stream (suc f.made) g).bytes le, (a.moved, rw (el, f.moved)))
+    let a = more g start out s next _ n ls en (sets_part (64 * n) out part (serialize (chacha_block s)) (rw el at ep)) f in
+    let lg : length g ≡ 16 = sym (stream_keeps_length n g) ∙ ap length (sym f.moved) ∙ ls in
+    let w : whole_blocks (length start) ≡ n + 1 = omega arith in
+    let d : n + 1 - 1 ≡ n = omega arith in
+    let le : length start ≤ length (stream (n + 1) g).bytes = omega (arith, stream-length (n + 1) g lg) in
+    rw (w, d) (a.laid ∙ sets_over start (stream (n + 1) g).bytes le, (a.moved, rw (el, f.moved)))

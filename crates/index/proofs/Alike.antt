@@ -2,12 +2,11 @@
 use mathlib.Core.Path.{◌≡◌, refl, sym, ap, ap₂, ◌∙◌}
 use mathlib.Core.Bool.{Bool, true, false, ◌&&◌}
 use mathlib.Core.List.{List, [], ◌∷◌}
-use Prim.Native.Nat.{ℕ, suc, ◌≤◌, ◌<◌}
+use Prim.Native.Nat.{ℕ}
 use native.Mathlib.Omega.{arith}
-use borrow.Author.Tests.{eq-eqb, ne_eqb, eqb-true}
+use borrow.Author.Tests.{eq-eqb, eqb-true}
 use lib.Dec.{eqb}
-use lib.ListN.{length, get_or, drop, drop_of_length-le}
-use lib.Seq.{drop-cons}
+use Rattle.std.specs.Cmp.Lexicographic.{pointwise}
 use Rattle.ledger.specs.Choice.{pick}
 use Rattle.ledger.proofs.Picks.{and_left, and_right, both}
 use Rattle.index.specs.Summary.{index}
@@ -32,13 +31,18 @@ same_equal [] (y ∷ ys) h = let z : ◌≡◌ {A = ℕ} 0 1 = cc in absurd (ome
 same_equal (x ∷ xs) [] h = let z : ◌≡◌ {A = ℕ} 0 1 = cc in absurd (omega arith)
 same_equal (x ∷ xs) (y ∷ ys) h = one_by_one x y xs ys (same_equal xs ys) (eqb x y) refl h
 
--- lists of different lengths differ
-pub other_length : (a b : List ℕ) → (length a ≡ length b → ⊥) → false ≡ same a b
-other_length a b n = by (same a b) refl
-  where
-    by : (t : Bool) → same a b ≡ t → false ≡ t
-    by true e = absurd (n (ap length (same_equal a b e)))
-    by false e = refl
+-- and is what the library's comparison of two lists says
+and_pick : (t b : Bool) → (t && b) ≡ pick t b false
+unfolding pick
+and_pick true b = refl
+and_pick false b = refl
+
+pub pointwise_same : (a b : List ℕ) → pointwise eqb a b ≡ same a b
+unfolding same
+pointwise_same [] [] = refl
+pointwise_same [] (y ∷ ys) = refl
+pointwise_same (x ∷ xs) [] = refl
+pointwise_same (x ∷ xs) (y ∷ ys) = and_pick (eqb x y) (pointwise eqb xs ys) ∙ ap (λ (t : Bool). pick (eqb x y) t false) (pointwise_same xs ys)
 
 -- what a comparison tells that is right both ways
 pub told_same : (a b c : List ℕ) → c ≡ b → (r : Bool) → (r ≡ true → a ≡ c) → (a ≡ c → r ≡ true) → r ≡ same a b
@@ -48,22 +52,6 @@ told_same a b c e false f g = by (same a b) refl
     by : (t : Bool) → same a b ≡ t → false ≡ t
     by true q = let z : false ≡ true = g (same_equal a b q ∙ sym e) in z
     by false q = refl
-
--- from one position on to the next
-module _ (a b : List ℕ) (i : ℕ) (h : i < length a) (l : length a ≡ length b) where
-  pub next_same : get_or a i 0 ≡ get_or b i 0 → same (drop i a) (drop i b) ≡ same (drop (suc i) a) (drop (suc i) b)
-  unfolding same pick
-  next_same e = rw (drop-cons a i 0 h, drop-cons b i 0 (omega (arith, h, l)), eq-eqb (get_or a i 0) (get_or b i 0) e) refl
-
-  pub here_differ : (get_or a i 0 ≡ get_or b i 0 → ⊥) → same (drop i a) (drop i b) ≡ false
-  unfolding same pick
-  here_differ e = rw (drop-cons a i 0 h, drop-cons b i 0 (omega (arith, h, l)), ne_eqb (get_or a i 0) (get_or b i 0) e) refl
-
-pub none_differ : (a b : List ℕ) (i : ℕ) → length a ≤ i → length a ≡ length b → same (drop i a) (drop i b) ≡ true
-unfolding same
-none_differ a b i h l =
-    let k : length b ≤ i = omega (arith, h, l) in
-    rw (drop_of_length-le a h, drop_of_length-le b k) refl
 
 -- THE SAME of indexes: exactly equal ones
 pub index_self : (a : Index) → same_index a a ≡ true
@@ -81,18 +69,3 @@ index_equal a b h =
     let s = eqb-true a.reads b.reads (and_right (same a.kinds b.kinds) (eqb a.reads b.reads) r) in
     let e : index a.places a.kinds a.reads ≡ index b.places b.kinds b.reads = rw (p, k, s) refl in
     e
-
--- test by test, as the code has it
-module _ (a b : Index) (p : Bool) (e : p ≡ same a.places b.places) where
-  pub places_differ : p ≡ false → false ≡ same_index a b
-  unfolding same_index
-  places_differ z = rw (← e, z) refl
-
-  module _ (k : Bool) (d : k ≡ same a.kinds b.kinds) (t : p ≡ true) where
-    pub kinds_differ : k ≡ false → false ≡ same_index a b
-    unfolding same_index
-    kinds_differ z = rw (← e, t, ← d, z) refl
-
-    pub reads_tell : k ≡ true → eqb a.reads b.reads ≡ same_index a b
-    unfolding same_index
-    reads_tell z = rw (← e, t, ← d, z) refl

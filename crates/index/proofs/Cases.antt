@@ -10,7 +10,7 @@ use Rattle.journal.specs.Reading as reading
 use Rattle.journal.specs.Header as header
 use Rattle.journal.specs.Walking as walking
 use Rattle.journal.specs.declared.records.Record.TheVariants.{Read}
-use Rattle.journal.specs.declared.records.Found.TheVariants.{One}
+use Rattle.journal.specs.Found.{One}
 use Rattle.index.specs.Summary as summary
 use Rattle.index.specs.Filing as filing
 use Rattle.index.specs.Looking as looking

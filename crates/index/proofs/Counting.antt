@@ -11,8 +11,7 @@ use Rattle.journal.specs.Header.{records_begin, header_of, version_of}
 use Rattle.journal.specs.Reading.{read_at}
 use Rattle.journal.specs.Walking.{Entry, Walk, entry, walk, walk_of}
 use Rattle.journal.specs.declared.records.Record.{Record}
-use Rattle.journal.specs.declared.records.Found.{Found}
-use Rattle.journal.specs.declared.records.Found.TheVariants.{One, Stop, End}
+use Rattle.journal.specs.Found.{Found, One, Stop, End}
 use Rattle.journal.proofs.Sides.{by_less, by_same}
 use Rattle.journal.proofs.GoodHeader.{header_good}
 use Rattle.journal.proofs.Walks.{along_walk, walk_one, walk-stop, walk_end, good_walk, bad_walk}

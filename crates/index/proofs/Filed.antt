@@ -20,9 +20,6 @@ one_word_more l ws at i h room e =
     let k : at + 4 * i ≡ at + length (words_bytes (take i ws)) = omega (arith, length-words_bytes (take i ws), length-take-le i ws (omega arith)) in
     rw (e, n, k, words_bytes-suc ws i h) (sets-append l at (words_bytes (take i ws)) (le_bytes 4 (get_or ws i 0)))
 
-pub all_words : (l ws : List ℕ) (at i n : ℕ) → i ≡ n → sets l at (words_bytes (take i ws)) ≡ sets l at (words_bytes (take n ws))
-all_words l ws at i n e = ap (λ (m : ℕ). sets l at (words_bytes (take m ws))) e
-
 pub kept_length : (before : List ℕ) (k : ℕ) (xs : List ℕ) {after : List ℕ} → after ≡ sets before k xs → length after ≡ length before
 kept_length before k xs e = ap length e ∙ length-sets before k xs
 
@@ -70,6 +67,3 @@ pub take_file : (room text : List ℕ) (n : ℕ) (left : List ℕ) → left ≡ 
 take_file room text n left l e h =
     let z : 0 + length text ≡ length text = omega arith in
     rw (l, e, sets-eq text room 0 (omega (arith, h, e)), z) (take-append_seam text (drop (length text) room))
-
-pub all_six : (room kinds : List ℕ) → length kinds ≡ 6 → sets room 5 (words_bytes (take 6 kinds)) ≡ sets room 5 (words_bytes kinds)
-all_six room kinds h = ap (λ (l : List ℕ). sets room 5 (words_bytes l)) (take_all 6 kinds (omega (arith, h)))

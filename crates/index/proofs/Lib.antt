@@ -1,5 +1,4 @@
 pub mod Records
-pub mod Marking
 pub mod Going
 pub mod Tables
 pub mod Updating

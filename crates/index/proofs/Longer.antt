@@ -6,7 +6,10 @@ use native.Mathlib.Omega.{arith}
 use borrow.Author.Tests.{eq-eqb, ne_eqb}
 use lib.ListN.{length, take, length-append}
 use lib.Seq.{length-take-le, sets}
+use Rattle.std.specs.Prelude.{Result, Ok, Err}
 use Rattle.ledger.specs.Choice.{pick}
+use Rattle.ledger.specs.Refusals.{number_of}
+use Rattle.ledger.specs.declared.refusals.Refusal.{Refusal}
 use Rattle.ledger.specs.Numbers.{journal_too_large}
 use Rattle.journal.specs.Header.{largest, header_of, version_of}
 use Rattle.journal.specs.Layout.{sum}
@@ -14,10 +17,11 @@ use Rattle.journal.specs.Walking.{Walk, walk, walk_of, ending_of}
 use Rattle.journal.specs.Writing.{further}
 use Rattle.journal.proofs.GoodHeader.{too_large, header_number}
 use Rattle.journal.proofs.Walks.{bad_walk}
+use Rattle.journal.proofs.Refused.{not_0}
 use Rattle.journal.proofs.Moved.{appended_alone}
 use Rattle.index.specs.Summary.{summary_of, index_of, records_in, updated}
 use Rattle.index.specs.Room.{Roomy}
-use Rattle.index.specs.Calls.{fresh_of, fresh_in, appended, room_after}
+use Rattle.index.specs.Calls.{fresh_of, fresh_in, appended, Extended, room_after}
 use Rattle.index.specs.declared.summary.Index.{Index}
 use Rattle.index.specs.declared.fresh.Fresh.{Fresh}
 use Rattle.index.specs.declared.appending.Appended.{Appended}
@@ -71,15 +75,18 @@ module _ (room : List ℕ) (len : ℕ) (kept : Index) (more : List ℕ) (n : ℕ
   unfolding appended room_after pick
   done_with z ix e left l = rw (eq-eqb n 0 z) (ap (answer 0 (len + length more)) e, l)
 
--- by the number that refused it, whichever way that is said
-pub by_its_number : (room : List ℕ) (len : ℕ) (kept : Index) (more : List ℕ) (m n : ℕ) → m ≡ n → (r : Appended) (left : List ℕ)
-    → (r ≡ appended m room len kept more) × (left ≡ room_after m room len more) → (r ≡ appended n room len kept more) × (left ≡ room_after n room len more)
-by_its_number room len kept more m n e r left h = rw (← e) h
+-- the same as the code tells it
+module _ (room : List ℕ) (len : ℕ) (more : List ℕ) where
+  pub not_extended : (why : Refusal) (n : ℕ) → number_of why ≡ n → Extended (Err why) n room len more room
+  unfolding room_after pick
+  not_extended why n e = record { number = e; index = tt; room_then = rw (← e, ne_eqb (number_of why) 0 (not_0 why)) refl }
 
--- and by the index that it keeps
-pub by_its_index : (room : List ℕ) (len : ℕ) (kept own : Index) → kept ≡ own → (more : List ℕ) (n : ℕ) (r : Appended) (left : List ℕ)
-    → (r ≡ appended n room len kept more) × (left ≡ room_after n room len more) → (r ≡ appended n room len own more) × (left ≡ room_after n room len more)
-by_its_index room len kept own e more n r left h = rw (← e) h
+  pub extended : (n : ℕ) → n ≡ 0 → (ix : Index) → ix ≡ index_of (take len room ++ more) → (left : List ℕ) → left ≡ sets room len more → Extended (Ok ix) n room len more left
+  unfolding room_after pick
+  extended n z ix e left l = record { number = sym z; index = e; room_then = rw (eq-eqb n 0 z) l }
+
+pub by_the_number : {done : Result Index Refusal} {m n len : ℕ} {room more left : List ℕ} → m ≡ n → Extended done m room len more left → Extended done n room len more left
+by_the_number e h = rw (← e) h
 
 module _ (room : List ℕ) (len : ℕ) (ix : Index) (more : List ℕ) (whole : length room ≡ largest) (fits : len ≤ largest) where
   abbrev J : List ℕ

@@ -12,7 +12,7 @@ use Rattle.journal.specs.Layout.{widths, sum, kind_of, record_of}
 use Rattle.journal.specs.Reading.{fields_in, read_at}
 use Rattle.journal.specs.declared.records.Record.{Record}
 use Rattle.journal.specs.declared.records.Record.TheVariants.{Event, Interrupt, Write, Seed, Read, BlockingRead}
-use Rattle.journal.specs.declared.records.Found.TheVariants.{One}
+use Rattle.journal.specs.Found.{One}
 use Rattle.journal.proofs.Onward.{stands}
 use Rattle.index.specs.Summary.{asks}
 

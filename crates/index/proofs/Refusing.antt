@@ -1,7 +1,7 @@
 -- What is refused, test by test.
 use mathlib.Core.Path.{◌≡◌, refl, sym, ap, ◌∙◌}
 use mathlib.Core.Bool.{Bool, true, false}
-use mathlib.Core.List.{List, [], ◌∷◌, ◌++◌}
+use mathlib.Core.List.{List, [], ◌∷◌}
 use Prim.Native.Nat.{ℕ, ◌≤◌, ◌<◌}
 use native.Mathlib.Omega.{arith}
 use borrow.Author.Tests.{eq-eqb, ne_eqb, eqb-true, lt-ltb, le-ltb}
@@ -12,13 +12,10 @@ use Rattle.ledger.specs.Numbers.{journal_too_large, index_differs, too_long}
 use Rattle.ledger.proofs.Picks.{pick_by}
 use Rattle.journal.specs.Header.{largest}
 use Rattle.journal.specs.Walking.{ending_of}
-use Rattle.journal.proofs.Sides.{by_less, by_same}
+use Rattle.journal.proofs.Sides.{by_less}
 use Rattle.index.specs.Summary.{index_of}
-use Rattle.index.specs.Calls.{ending_in, fresh_of, fresh_in, same, same_index, agrees, file_agrees, most_numbers, append_refused, look_refused}
-use Rattle.index.specs.Filing.{file_of}
-use Rattle.index.specs.declared.summary.Index.{Index}
+use Rattle.index.specs.Calls.{ending_in, fresh_of, fresh_in, most_numbers, look_refused}
 use Rattle.index.specs.declared.fresh.Fresh.{Fresh}
-use Rattle.index.proofs.Working.{fresh}
 
 -- ---- the first number that is not 0
 module _ (a b c : ℕ) where
@@ -61,18 +58,6 @@ module _ (room : List ℕ) (n : ℕ) where
     pub found_index : found.number ≡ 0 → found.index ≡ index_of (take n room)
     found_index z = ap (λ (x : Fresh). x.index) known ∙ index_in (sym ends ∙ z)
 
-    pub found_whole : found.number ≡ 0 → fresh_in room n ≡ fresh 0 found.index
-    found_whole z = sym known ∙ ap (λ (m : ℕ). fresh m found.index) z
-
-    -- an index is tested where there is one: what it is tested against has no say before
-    pub tested : (test : Index → Bool) (c : ℕ)
-        → first (ending_in room n ∷ pick (test found.index) 0 index_differs ∷ c ∷ []) ≡ first (ending_in room n ∷ pick (test (index_of (take n room))) 0 index_differs ∷ c ∷ [])
-    tested test c =
-        by_same found.number 0
-        (λ z. ap (λ (x : Index). first (ending_in room n ∷ pick (test x) 0 index_differs ∷ c ∷ [])) (found_index z))
-        (λ h. let e : ending_in room n ≡ 0 → ⊥ = (λ q. h (ends ∙ q)) in
-        sym (first_of (ending_in room n) (pick (test found.index) 0 index_differs) c e) ∙ first_of (ending_in room n) (pick (test (index_of (take n room))) 0 index_differs) c e)
-
     module _ (good : Bool) (c : ℕ) where
       abbrev All : ℕ
       All = first (ending_in room n ∷ pick good 0 index_differs ∷ c ∷ [])
@@ -101,22 +86,3 @@ module _ (room : List ℕ) (n : ℕ) where
       few_enough h =
           let t : pick (ltb most_numbers (length numbers)) too_long 0 ≡ 0 = rw (le-ltb most_numbers (length numbers) h) refl in
           sym t ∙ by_last good (pick (ltb most_numbers (length numbers)) too_long 0) z g
-
-    -- the test that was made is the one against the journal's own index
-    module _ (ix : Index) (good : Bool) (e : good ≡ same_index ix found.index) where
-      pub append_tested : (more : List ℕ) → append_refused good room n more ≡ append_refused (agrees ix room n) room n more
-      unfolding append_refused agrees
-      append_tested more = rw e (tested (same_index ix) (ending_of (take n room ++ more)))
-
-      pub look_tested : (numbers : List ℕ) → look_refused good room n numbers ≡ look_refused (agrees ix room n) room n numbers
-      unfolding look_refused agrees
-      look_tested numbers = rw e (tested (same_index ix) (pick (ltb most_numbers (length numbers)) too_long 0))
-
-    module _ (file : List ℕ) (good : Bool) (e : good ≡ same file (file_of found.index)) where
-      pub append_file_tested : (more : List ℕ) → append_refused good room n more ≡ append_refused (file_agrees file room n) room n more
-      unfolding append_refused file_agrees
-      append_file_tested more = rw e (tested (λ x. same file (file_of x)) (ending_of (take n room ++ more)))
-
-      pub look_file_tested : (numbers : List ℕ) → look_refused good room n numbers ≡ look_refused (file_agrees file room n) room n numbers
-      unfolding look_refused file_agrees
-      look_file_tested numbers = rw e (tested (λ x. same file (file_of x)) (pick (ltb most_numbers (length numbers)) too_long 0))

@@ -1,18 +1,16 @@
--- The sum of six numbers.
+-- The sum of a list, one number after another.
 use mathlib.Core.Path.{◌≡◌}
-use mathlib.Core.List.{List, [], ◌∷◌}
-use Prim.Native.Nat.{ℕ, ◌+◌}
+use mathlib.Core.List.{List}
+use Prim.Native.Nat.{ℕ, suc, ◌+◌, ◌≤◌, ◌<◌}
 use native.Mathlib.Omega.{arith}
-use lib.ListN.{length, get_or}
+use lib.ListN.{length, get_or, drop, drop_of_length-le}
+use lib.Seq.{drop-cons}
 use Rattle.journal.specs.Layout.{sum}
 
-pub six_together : (l : List ℕ) → length l ≡ 6 → (get_or l 0 0 + get_or l 1 0 + get_or l 2 0) + (get_or l 3 0 + get_or l 4 0 + get_or l 5 0) ≡ sum l
+pub one_less : (l : List ℕ) (i : ℕ) → i < length l → sum (drop i l) ≡ get_or l i 0 + sum (drop (i + 1) l)
 unfolding sum
-six_together [] h = absurd (omega (arith, h))
-six_together (a ∷ []) h = absurd (omega (arith, h))
-six_together (a ∷ b ∷ []) h = absurd (omega (arith, h))
-six_together (a ∷ b ∷ c ∷ []) h = absurd (omega (arith, h))
-six_together (a ∷ b ∷ c ∷ d ∷ []) h = absurd (omega (arith, h))
-six_together (a ∷ b ∷ c ∷ d ∷ e ∷ []) h = absurd (omega (arith, h))
-six_together (a ∷ b ∷ c ∷ d ∷ e ∷ f ∷ []) h = omega arith
-six_together (a ∷ b ∷ c ∷ d ∷ e ∷ f ∷ g ∷ l) h = absurd (omega (arith, h))
+one_less l i h = let e : i + 1 ≡ suc i = omega arith in rw (e, drop-cons l i 0 h) (omega arith)
+
+pub none_more : (l : List ℕ) (i : ℕ) → length l ≤ i → sum (drop i l) ≡ 0
+unfolding sum
+none_more l i h = rw (drop_of_length-le l h) (omega arith)

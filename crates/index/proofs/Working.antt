@@ -6,18 +6,21 @@ use native.Mathlib.Omega.{arith}
 use borrow.Author.Tests.{ne_eqb, lt-ltb, le-ltb}
 use lib.ListN.{length, get_or, take, replicate, get_or-replicate, length-replicate, get_or-eq_default}
 use lib.Seq.{length-take-le}
+use Rattle.std.specs.Prelude.{Result, Ok, Err}
+use Rattle.std.specs.Result.{result_unwrap_or}
 use Rattle.ledger.specs.Choice.{pick}
+use Rattle.ledger.specs.declared.refusals.Refusal.{Refusal}
 use Rattle.ledger.specs.Numbers.{journal_too_large}
 use Rattle.journal.specs.Header.{largest, records_begin, header_of}
 use Rattle.journal.specs.Walking.{Walk, walk, walk_of, ending_of}
 use Rattle.journal.specs.Writing.{further}
-use Rattle.journal.specs.declared.heading.Heading.{Heading}
+use Rattle.journal.specs.Found.{Heading}
 use Rattle.journal.proofs.Sides.{by_less}
 use Rattle.journal.proofs.GoodHeader.{header_good, heading_good}
 use Rattle.journal.proofs.Walks.{good_walk}
 use Rattle.index.specs.Summary.{most_places, kinds_there_are, index, summary_of, index_of, records_in, updated}
 use Rattle.index.specs.Room.{Roomy}
-use Rattle.index.specs.Calls.{fresh_of, fresh_in}
+use Rattle.index.specs.Calls.{fresh_of, fresh_in, worked_out}
 use Rattle.index.specs.declared.summary.Index.{Index}
 use Rattle.index.specs.declared.fresh.Fresh.{Fresh}
 use Rattle.index.proofs.Updating.{updated-fresh, of_none, no_further, all_records}
@@ -99,3 +102,8 @@ past_room room n h = rw (lt-ltb largest n h) refl
 
 pub roomy_in : (room : List ℕ) (n : ℕ) → n ≤ length room → {count reads : ℕ} {kinds : List ℕ} → Roomy count (length (take n room)) kinds reads → Roomy count n kinds reads
 roomy_in room n h r = record { short = omega (arith, r.short, length-take-le n room h); few = r.few; narrow = r.narrow }
+
+-- the index of a journal that has none is an index of nothing
+pub index_or_none : (found : Result Index Refusal) (f : Fresh) → worked_out found ≡ f → (ix : Index) → ix ≡ result_unwrap_or found (index (replicate most_places 0) (replicate kinds_there_are 0) 0) → ix ≡ f.index
+index_or_none (Ok it) f e ix q = q ∙ ap (λ (x : Fresh). x.index) e
+index_or_none (Err why) f e ix q = q ∙ (of_none ∙ ap (λ (x : Fresh). x.index) e)

@@ -1,9 +1,11 @@
 -- The two calls on a room of 61,440 bytes, whose first n are a journal, and on its index: what they refuse, in the order of the wish, and what
 -- they leave.
-use Rattle.std.specs.Prelude.{ℕ, ◌+◌, Bool, true, false, ◌&&◌, List, [], ◌∷◌, ◌++◌, map, length, take, ltb, eqb}
+use Rattle.std.specs.Prelude.{◌≡◌, ℕ, ◌+◌, Bool, true, false, ◌&&◌, List, [], ◌∷◌, ◌++◌, map, length, take, ltb, eqb, Result, Ok, Err, IfOk}
 use Rattle.std.proofs.lemmas.List.Edits.{sets}
 use Rattle.ledger.specs.Choice.{pick, first}
-use Rattle.ledger.specs.Numbers.{too_long, journal_too_large, index_differs}
+use Rattle.ledger.specs.Refusals.{number_of, number_given}
+use Rattle.ledger.specs.declared.refusals.Refusal.{Refusal}
+use Rattle.ledger.specs.Numbers.{done, too_long, journal_too_large, index_differs}
 use Rattle.journal.specs.Header.{largest}
 use Rattle.journal.specs.Walking.{ending_of}
 use Rattle.index.specs.Summary.{summary_of, index_of}
@@ -27,6 +29,11 @@ fresh_of j = let e = ending_of j in record { number = e; index = pick (eqb e 0) 
 
 unfoldable pub fresh_in : List ℕ → ℕ → Fresh
 fresh_in room n = pick (ltb largest n) (record { number = journal_too_large; index = summary_of [] }) (fresh_of (take n room))
+
+-- how the code tells it: the index, or why the journal has none
+abbrev pub worked_out : Result Index Refusal → Fresh
+worked_out (Ok ix) = record { number = done; index = ix }
+worked_out (Err why) = record { number = number_of why; index = summary_of [] }
 
 -- whether two lists, two indexes, are the same
 unfoldable pub same : List ℕ → List ℕ → Bool
@@ -61,6 +68,12 @@ appended refused room n ix more =
 -- the room then: the bytes laid behind the journal, all others as they were
 unfoldable pub room_after : ℕ → List ℕ → ℕ → List ℕ → List ℕ
 room_after refused room n more = pick (eqb refused 0) (sets room n more) room
+
+-- an append as the code tells it: the number that refuses it and, where none does, the longer journal's index; and the room
+pub record Extended (done : Result Index Refusal) (refused : ℕ) (room : List ℕ) (n : ℕ) (more left : List ℕ) : Type 0 where
+  pub number : number_given done ≡ refused
+  pub index : IfOk done (λ ix. ix ≡ index_of (take n room ++ more))
+  pub room_then : left ≡ room_after refused room n more
 
 -- LOOKING UP several: the answers and the places, laid at the start of their rooms; or nothing
 unfoldable pub answers_after : ℕ → List ℕ → ℕ → List ℕ → List ℕ → List ℕ

@@ -1,12 +1,13 @@
 -- A record by its number, told twice: by counting from the front, and by looking it up from the nearest entry of the index on.
-use Rattle.std.specs.Prelude.{ℕ, zero, suc, ◌/◌, ◌%◌, List, [], ◌∷◌, get_or, ltb}
+use Rattle.std.specs.Prelude.{◌≡◌, ℕ, zero, suc, ◌/◌, ◌%◌, List, [], ◌∷◌, get_or, ltb, Result, Ok, Err}
 use Rattle.ledger.specs.Choice.{pick}
+use Rattle.ledger.specs.Refusals.{number_of}
+use Rattle.ledger.specs.declared.refusals.Refusal.{Refusal}
 use Rattle.ledger.specs.Numbers.{done, no_such_record}
 use Rattle.journal.specs.Reading.{read_at}
 use Rattle.journal.specs.Header.{version_of}
 use Rattle.journal.specs.Walking.{Entry}
-use Rattle.journal.specs.declared.records.Found.{Found}
-use Rattle.journal.specs.declared.records.Found.TheVariants.{One, Stop, End}
+use Rattle.journal.specs.Found.{Found, One, Stop, End}
 use Rattle.index.specs.Summary.{every, records_in}
 use Rattle.index.specs.declared.summary.Index.{Index}
 
@@ -47,3 +48,8 @@ sought many places v j n =
 -- in the version that the journal says
 unfoldable pub look_up : Index → List ℕ → ℕ → Sought
 look_up ix j n = sought (records_in ix) ix.places (version_of j) j n
+
+-- how the code tells it: the place, or why there is none
+abbrev pub Finds : Result ℕ Refusal → Sought → Type 0
+Finds (Ok at) it = (done ≡ it.answer) × (at ≡ it.place)
+Finds (Err why) it = (number_of why ≡ it.answer) × (0 ≡ it.place)

@@ -14,16 +14,14 @@ const PLACES_BEGIN: usize = 33;
 
 pub const FILE_MOST: usize = PLACES_BEGIN + 4 * PLACES;
 
-// The first n of some words, laid into a room from a place on.
-fn lay_words(words: &[u32], n: usize, room: &mut [u8], at: usize)
-    requires { (n ≤ length words.now) × ((n ≤ 138) × (at ≤ 33)) }
-    ensures room_after { room.new ≡ sets room.old at (words_bytes (take n words.now)) }
+// Words laid into a room from a place on.
+fn lay_words(words: &[u32], room: &mut [u8], at: usize)
+    requires { (length words.now ≤ 138) × (at ≤ 33) }
+    ensures room_after { room.new ≡ sets room.old at (words_bytes words.now) }
     ensures room_len_unchanged { length room.new ≡ length room.old }
 {
-    let mut i: usize = 0;
-    while i < n {
-        put_u32(room, at + 4 * i, words[i]);
-        i += 1;
+    for (i, word) in words.iter().enumerate() {
+        put_u32(room, at + 4 * i, *word);
     }
 }
 
@@ -33,11 +31,7 @@ fn open(room: &mut [u8])
     ensures room_after { room.new ≡ sets room.old 0 (78 ∷ 75 ∷ 73 ∷ 1 ∷ 0 ∷ []) }
     ensures room_len_unchanged { length room.new ≡ length room.old }
 {
-    room[0] = b'N';
-    room[1] = b'K';
-    room[2] = b'I';
-    room[3] = 1;
-    room[4] = 0;
+    room[..5].copy_from_slice(b"NKI\x01\x00");
 }
 
 // How many places are used: one for every 64 records that were begun, and no more than there are.
@@ -45,11 +39,7 @@ fn places_used(kinds: &[u32; KINDS]) -> usize
     ensures { (result ≡ min (used kinds.now) 138) × (result ≤ 138) }
 {
     let n = (records(kinds) + 63) / 64;
-    if n < PLACES as u64 {
-        n as usize
-    } else {
-        PLACES
-    }
+    n.min(PLACES as u64) as usize
 }
 
 // The counts of the kinds, and the places that are used: each where it belongs.
@@ -57,7 +47,7 @@ fn lay_kinds(kinds: &[u32; KINDS], room: &mut [u8])
     ensures room_after { room.new ≡ sets room.old 5 (words_bytes kinds.now) }
     ensures room_len_unchanged { (length room.new ≡ length room.old) × (length kinds.now ≡ 6) }
 {
-    lay_words(&kinds[..], KINDS, room, 5);
+    lay_words(&kinds[..], room, 5);
 }
 
 fn lay_places(places: &[u32; PLACES], n: usize, room: &mut [u8])
@@ -65,7 +55,7 @@ fn lay_places(places: &[u32; PLACES], n: usize, room: &mut [u8])
     ensures room_after { room.new ≡ sets room.old 33 (words_bytes (take n places.now)) }
     ensures room_len_unchanged { (length room.new ≡ length room.old) × (length places.now ≡ 138) }
 {
-    lay_words(&places[..], n, room, PLACES_BEGIN);
+    lay_words(&places[..n], room, PLACES_BEGIN);
 }
 
 // The sum of the lengths.

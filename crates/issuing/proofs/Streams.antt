@@ -7,7 +7,7 @@ use native.Mathlib.Omega.{arith}
 use Rattle.ledger.specs.Choice.{pick}
 use Rattle.keeper.specs.Generator.{generated}
 use Rattle.keeper.proofs.Counter.{generated-blocks}
-use Rattle.desk.specs.Desks.{numbers_in, remembered, among, appended}
+use Rattle.desk.specs.Desks.{remembered, among, appended}
 use Rattle.desk.specs.Issuing.{Spent, none, handed}
 use Rattle.desk.specs.declared.Desk.{Desk}
 use Rattle.issuing.specs.Promise.{Streamed, streamed, streaming}
@@ -48,14 +48,14 @@ module _ (class : ℕ) (d : Desk) (b c : ℕ) (g h n : List ℕ) (en : n ≡ cla
   issues z l i e kept ek = ap (λ (x : Desk). streamed h x (handed (spent_by (b + 1) c) n)) ek ∙ issues_at (3 - b) e ∙ one_of z l i
 
 -- no draw is left
-pub no_more : (class : ℕ) (d : Desk) (b c : ℕ) (g : List ℕ) (z : Streamed) → b ≡ 4 → streaming (4 - b) class d (spent_by b c) g ≡ z → streamed g d (none 14 (spent_by b c)) ≡ z
+pub no_more : (class : ℕ) (d : Desk) (b c : ℕ) (g : List ℕ) (z : Streamed) → b ≡ 4 → streaming (4 - b) class d (spent_by b c) g ≡ z → streamed g d (none 14 (spent_by 4 c)) ≡ z
 unfolding streaming
-no_more class d b c g z e i = let f : 0 ≡ 4 - b = omega arith in ap (λ (x : ℕ). streaming x class d (spent_by b c) g) f ∙ i
+no_more class d b c g z e i = ap (λ (n : ℕ). streaming (4 - n) class d (spent_by n c) g) (sym e) ∙ i
 
 -- ---- a number is compared with those of the desk as it was at the start
+pub at_start : (n : List ℕ) (d e : Desk) (t v : Bool) → e ≡ d → t ≡ among n (remembered e) → t ≡ v → among n (remembered d) ≡ v
+at_start n d e t v h f g = ap (λ (x : Desk). among n (remembered x)) (sym h) ∙ sym f ∙ g
+
 pub flip : (t v : Bool) → not t ≡ v → t ≡ not v
 flip true v h = ap not h
 flip false v h = ap not h
-
-pub at_start : (n ns ms : List ℕ) (count : ℕ) (t : Bool) → ms ≡ ns → t ≡ among n (numbers_in count ms) → (v : Bool) → not t ≡ v → among n (numbers_in count ns) ≡ not v
-at_start n ns ms count t e f v g = ap (λ (x : List ℕ). among n (numbers_in count x)) (sym e) ∙ sym f ∙ flip t v g

@@ -13,7 +13,7 @@ use Rattle.ledger.specs.Choice.{pick}
 use Rattle.ledger.specs.Credits.{reseed_takes}
 use Rattle.ledger.specs.Sizes.{input_words}
 use Rattle.ledger.specs.Streams.{stream_blocks}
-use Rattle.ledger.specs.Marks.{reseed_due, with_spots}
+use Rattle.ledger.specs.Marks.{reseed_due}
 use Rattle.ledger.specs.Range.{ledger_in_range, others_in_range, in_range}
 use Rattle.ledger.specs.PublicCalls.{read}
 use Rattle.ledger.specs.Plans.{answer_of}
@@ -21,8 +21,8 @@ use Rattle.ledger.specs.Machine.{Shown}
 use Rattle.ledger.specs.declared.Ledger.{Ledger}
 use Rattle.ledger.specs.declared.Answer.{Answer}
 use Rattle.ledger.specs.declared.Plan.{Plan}
-use Rattle.ledger.specs.declared.Spot.{Spot}
 use Rattle.ledger.proofs.Picks.{and_right}
+use Rattle.pool.specs.Mixing.{Pool}
 use Rattle.pool.specs.Extracting.{extract}
 use Rattle.mixer.specs.Sizes.{shape_of}
 use Rattle.keeper.specs.Generator.{onto_key, Stream, generated}
@@ -33,7 +33,7 @@ use Rattle.keeper.specs.declared.Keeper.{Keeper}
 use Rattle.keeper.proofs.Counter.{generated_top, generated-blocks}
 use Rattle.steps.specs.Promise.{Left, left, leaves}
 use Rattle.steps.proofs.Accepted.{ReadPlan}
-use Rattle.steps.proofs.Strokes.{Planned, refusal, read_done}
+use Rattle.steps.proofs.Strokes.{Planned, refusal, moved_on, read_done}
 use Rattle.desk.specs.Desks.{remembered, among, appended, desk_in_range}
 use Rattle.desk.specs.Issuing.{LeftWith, left_with, Spent, nothing_yet, spending, none, handed, draw, drawing, class_of, issue}
 use Rattle.desk.specs.declared.Desk.{Desk}
@@ -94,23 +94,22 @@ settled_draws (suc n) class now d s k h =
     (settled_draws n class now d spent after settled ∙ ap (λ (x : Spent). in_record k (streaming n class d x o.generator)) same)
     (ap (λ (x : Spent). left_with after (appended number d) (handed x number)) same)
 
--- ---- the first draw: a plan that answers 0 is carried out on the input pool, whose words are then xs and whose spot is u, and on the key, with which the
--- generator is g; then bytes are read from the generator
-module _ (k : Keeper) (now : ℕ) (p : Plan) (xs : List ℕ) (u : Spot) (g : List ℕ)
-    (planned : Planned k (read now 15) p) (shape : ReadPlan 15 p) (zero-answered : p.number ≡ 0)
-    (wide : length k.input ≡ input_words) (long : length k.generator ≡ 16)
-    (ex : let e = extract (shape_of (length k.input)) p.reseed (input_pool k) in xs ≡ e.pool.words)
-    (eu : let e = extract (shape_of (length k.input)) p.reseed (input_pool k) in u ≡ e.pool.spot)
-    (eg : let e = extract (shape_of (length k.input)) p.reseed (input_pool k) in g ≡ onto_key e.bytes k.generator) where
+-- ---- the first draw: a plan that answers 0 is carried out on the input pool, which is then r, and on the key, with which the generator is g; then
+-- bytes are read from the generator
+module _ (k : Keeper) (now : ℕ) (p : Plan) (v r : Pool) (g : List ℕ)
+    (planned : Planned k (read now 15) p) (shape : ReadPlan 15 p) (zero-answered : p.number ≡ 0) (long : length k.generator ≡ 16)
+    (ev : v ≡ input_pool k)
+    (er : let e = extract (shape_of input_words) p.reseed v in r ≡ e.pool)
+    (eg : let e = extract (shape_of input_words) p.reseed v in g ≡ onto_key e.bytes k.generator) where
   -- the record before the bytes are read
   abbrev seeded : Keeper
-  seeded = keeper_of (with_spots u k.ledger.blocking.spot p.ledger) (timers_in k) xs k.blocking k.fast g
+  seeded = keeper_of (moved_on r.spot p.ledger) (timers_in k) r.words k.blocking k.fast g
 
   abbrev bytes_read : Stream
   bytes_read = generated 15 g
 
   read_so : left (with_generator bytes_read.generator seeded) (answer_of p) bytes_read.bytes ≡ leaves k (generator_read now 15) (replicate 15 0)
-  read_so = read_done k now (replicate 15 0) p xs u g _ _ planned shape wide long ex eu eg refl refl
+  read_so = read_done k now (replicate 15 0) p v r g _ _ planned shape long ev er eg refl refl
 
   first-answer : (draw now k).answer ≡ answer_of p
   unfolding leaves
@@ -153,13 +152,13 @@ module _ (k : Keeper) (now : ℕ) (p : Plan) (xs : List ℕ) (u : Spot) (g : Lis
       (settled_draws n class now d (spending nothing_yet (answer_of p)) after settled_then ∙ ap (λ (x : Spent). in_record seeded (streaming n class d x bytes_read.generator)) same)
       (ap (λ (x : Spent). left_with after (appended number d) (handed x number)) same)
 
-  -- .. as the code hands them over: the ledger and the answer of the plan that was carried out, and what the draws left
-  pub handed-over : (class : ℕ) (d : Desk) (l : Ledger) (a : Answer) → l ≡ with_spots u k.ledger.blocking.spot p.ledger → a ≡ answer_of p
+  -- .. as the code hands them over: the answer of the plan that was carried out, and what the draws left
+  pub handed-over : (class : ℕ) (d : Desk) (a : Answer) → a ≡ answer_of p
       → (h : List ℕ) (d' : Desk) (i : Issued) → streamed h d' i ≡ streaming 4 class d (record { blocks = 0; compressions = a.compressions }) g
-      → left_with (keeper_of l (timers_in k) xs k.blocking k.fast h) d' i ≡ drawing 4 class now d nothing_yet k
-  handed-over class d l a el ea h d' i e =
-      ap (in_record (keeper_of l (timers_in k) xs k.blocking k.fast g)) e
-      ∙ (λ j. in_record (keeper_of (el j) (timers_in k) xs k.blocking k.fast g) (streaming 4 class d (record { blocks = 0; compressions = (ea j).compressions }) g))
+      → left_with (with_generator h seeded) d' i ≡ drawing 4 class now d nothing_yet k
+  handed-over class d a ea h d' i e =
+      ap (in_record seeded) e
+      ∙ (λ j. in_record seeded (streaming 4 class d (record { blocks = 0; compressions = (ea j).compressions }) g))
       ∙ sym (all_draws 3 class d)
 
 -- ---- the whole call. `t` is the range test as the code makes it, of which `others` is the part that the ledger does not hold

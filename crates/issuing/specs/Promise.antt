@@ -1,14 +1,16 @@
 -- The draws as the code makes them, in two strokes. What is public decides the first draw, once for all of them; then bytes are drawn from the
 -- generator alone, since a further read at the same clock does nothing else.
-use Rattle.std.specs.Prelude.{List, ◌∷◌, ℕ, zero, suc, ◌+◌}
+use Rattle.std.specs.Prelude.{Result, Ok, Err, List, ◌∷◌, ℕ, zero, suc, ◌+◌}
 use Rattle.ledger.specs.Choice.{pick}
 use Rattle.ledger.specs.Numbers.{all_repeated}
+use Rattle.ledger.specs.Refusals.{number_of}
+use Rattle.ledger.specs.declared.refusals.Refusal.{Refusal}
 use Rattle.keeper.specs.Generator.{generated}
 use Rattle.keeper.specs.Record.{with_generator}
 use Rattle.keeper.specs.declared.Keeper.{Keeper}
 use Rattle.desk.specs.Sizes.{drawn_bytes}
 use Rattle.desk.specs.Desks.{remembered, among, appended}
-use Rattle.desk.specs.Issuing.{LeftWith, left_with, Spent, none, handed}
+use Rattle.desk.specs.Issuing.{LeftWith, left_with, Spent, nothing_yet, none, handed}
 use Rattle.desk.specs.declared.Desk.{Desk}
 use Rattle.desk.specs.declared.Issued.{Issued}
 
@@ -38,3 +40,8 @@ streaming (suc n) class d s g =
 -- the record with the generator that draws left, the desk, and what is handed back
 abbrev pub in_record : Keeper → Streamed → LeftWith
 in_record k r = left_with (with_generator r.generator k) r.desk r.issued
+
+-- ---- what is handed back: a number, or none where four draws repeated; of a refusal before the first draw its number, and no work
+abbrev pub handed_back : Result Issued Refusal → Issued
+handed_back (Ok i) = i
+handed_back (Err why) = none (number_of why) nothing_yet

@@ -1,21 +1,20 @@
-// The desk call on the keeper's parts and the desk's.
-ghost use Rattle.std.specs.Prelude.{◌≡◌, ◌&&◌, List, ℕ, leb};
+// The desk call on the keeper and the desk.
+ghost use Rattle.std.specs.Prelude.{◌≡◌, ◌&&◌, leb};
 ghost use Rattle.ledger.specs.Range.{ledger_in_range};
-ghost use Rattle.steps.specs.Promise.{both, lent, still};
 ghost use Rattle.desk.specs.Sizes.{remembers};
-ghost use Rattle.desk.specs.Desks.{desk_of};
-ghost use Rattle.desk.specs.Issuing.{left_with, nothing_yet, none, class_of, issue};
+ghost use Rattle.desk.specs.Issuing.{left_with, issue};
+ghost use Rattle.issuing.specs.Promise.{handed_back};
 
-use crate::Desked;
+use crate::classes::Class;
 use crate::draw::{draws, no_number};
-use decide::decide_read;
-use desk::{DESK_BYTES, DRAWN_BYTES, DRILL, LIVE, REMEMBERED};
+use decide::{answer_of, decide_read};
+use desk::{DRAWN_BYTES, Desk, Issued, REMEMBERED};
 use flows::reseed;
-use ledger::Ledger;
-use ledger::numbers::{DONE, NO_SUCH_CLASS, OUT_OF_RANGE};
-use ledger::sizes::{DEVICES, GENERATOR_WORDS, INPUT_WORDS};
+use keeper::Keeper;
+use ledger::{Ledger, Refusal};
+use mixer::Pool;
 use reckon::ledger_in_range;
-use steps::{carried_out, others_in_range};
+use steps::{others_in_range, put_back};
 
 // The record is in range, of which `others` is the test of what the ledger does not hold, and so is the desk.
 fn in_range(others: bool, l: Ledger, count: u32) -> bool
@@ -24,71 +23,33 @@ fn in_range(others: bool, l: Ledger, count: u32) -> bool
     (ledger_in_range(l) & others) & (count <= REMEMBERED)
 }
 
-// The class byte that a class field names, or 0.
-fn class_of(field: &[u8]) -> u8
-    ensures { result ≡ class_of field.now }
+// 17, then 13, then what the keeper says of a read; and then the draws, for which it is decided once.
+fn drawn(k: &mut Keeper, desk: &mut Desk, at: u32, field: &[u8]) -> Result<Issued, Refusal>
+    ensures { left_with k.new desk.new (handed_back result) ≡ issue k.old desk.old at field.now }
 {
-    if field.len() != 1 {
-        return 0;
+    let others = others_in_range(k);
+    if !in_range(others, k.ledger, desk.count) {
+        return Err(Refusal::OutOfRange);
     }
-    let c = field[0];
-    if c == DRILL {
-        return DRILL;
-    }
-    if c == LIVE {
-        return LIVE;
-    }
-    0
+    let class = Class::try_from(field)?;
+    let p = decide_read(others, k.ledger, at, DRAWN_BYTES)?;
+    k.ledger = p.ledger;
+    let mut input = Pool::new(&mut k.input, k.ledger.input.spot);
+    reseed(&mut input, &mut k.generator, p.reseed);
+    k.ledger.input.spot = input.spot;
+    let a = answer_of(p);
+    Ok(draws(&mut k.generator, desk, class, a.compressions))
 }
 
-// Refused, and nothing is changed.
-fn refused(l: Ledger, count: u32, why: u32) -> Desked
-    ensures { result ≡ record { ledger = l; count = count; issued = none why nothing_yet } }
+// The desk call. Where it is refused before it draws, nothing is changed.
+pub fn issue_on(k: &mut Keeper, desk: &mut Desk, at: u32, field: &[u8]) -> Issued
+    ensures { left_with k.new desk.new result ≡ issue k.old desk.old at field.now }
 {
-    Desked {
-        ledger: l,
-        count: count,
-        issued: no_number(why, 0, 0),
-    }
-}
-
-// The desk call: 17, then 13, then what the keeper says of a read; and then the draws, for which it is decided once.
-pub fn issue_on(
-    l: Ledger,
-    firsts: &[i64; DEVICES],
-    seconds: &[i64; DEVICES],
-    came: &[u8; DEVICES],
-    input: &mut [u32; INPUT_WORDS],
-    generator: &mut [u32; GENERATOR_WORDS],
-    count: u32,
-    numbers: &mut [u8; DESK_BYTES],
-    at: u32,
-    field: &[u8],
-) -> Desked
-    ensures { (clocks blocking fast : List ℕ) → let k = lent l result.ledger (still clocks) (still firsts.now) (still seconds.now) (still came.now) (both input.old input.new) (still blocking) (still fast) (both generator.old generator.new) in left_with k.exit (desk_of result.count numbers.new) result.issued ≡ issue k.entry (desk_of count numbers.old) at field.now }
-{
-    let others = others_in_range(&firsts[..], &seconds[..], &came[..], generator);
-    if !in_range(others, l, count) {
-        return refused(l, count, OUT_OF_RANGE);
-    }
-    let c = class_of(field);
-    if c == 0 {
-        return refused(l, count, NO_SUCH_CLASS);
-    }
-    let p = decide_read(others, l, at, DRAWN_BYTES);
-    if p.number != DONE {
-        return refused(l, count, p.number);
-    }
-    let s = reseed(&mut input[..], l.input.spot, &mut generator[..], p.reseed);
-    let d = carried_out(p, s, l.blocking.spot);
-    let n = d.ledger;
-    let a = d.answer;
-    let r = draws(generator, count, numbers, c, a.compressions);
-    let k = r.count;
-    let i = r.issued;
-    Desked {
-        ledger: n,
-        count: k,
-        issued: i,
+    match drawn(k, desk, at, field) {
+        Ok(issued) => issued,
+        Err(why) => {
+            put_back(k);
+            no_number(why, 0, 0)
+        }
     }
 }

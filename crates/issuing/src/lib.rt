@@ -1,5 +1,4 @@
-// The desk call on a keeper's parts and a desk's, as the calls of `steps` are on a keeper's: the ledger and the desk's count by value, the arrays
-// lent.
+// The desk call on the keeper's record and the desk, both lent, as the calls of `steps` are on the record.
 //
 // What is public decides first, once for all draws: the range test, the desk's count, the class field, and the plan of a generator read. Then
 // numbers are drawn from the generator alone, and each is compared with all that is remembered in one pass that runs to its end whatever it
@@ -9,17 +8,11 @@
 // has runs of what the code leaves, and proofs/ the customer's demands of them.
 #![tactic(auto)]
 
+mod classes;
 mod compare;
 mod draw;
 pub mod issue;
 mod remember;
 
+pub use classes::Class;
 pub use issue::issue_on;
-
-// What a desk call leaves besides what it was lent: the ledger, the desk's count, and what is handed back.
-#[derive(Drop)]
-pub struct Desked {
-    pub ledger: ledger::Ledger,
-    pub count: u32,
-    pub issued: desk::Issued,
-}

@@ -1,47 +1,24 @@
 // A number more in the desk.
-ghost use Rattle.std.specs.Prelude.{◌≡◌, ◌++◌, ◌+◌, ◌≤◌, length, drop};
-ghost use Rattle.std.proofs.lemmas.List.Edits.{sets};
-ghost use Rattle.desk.specs.Desks.{appended, desk_of};
+ghost use Rattle.std.specs.Prelude.{◌≡◌, ◌≤◌};
+ghost use Rattle.desk.specs.Sizes.{remembers};
+ghost use Rattle.desk.specs.Desks.{appended};
 
-use desk::{DESK_BYTES, NUMBER_BYTES, REMEMBERED};
+use desk::{DESK_BYTES, Desk, NUMBER_BYTES, REMEMBERED};
 
 // Where the newest number of a full desk stands.
 const LAST: usize = DESK_BYTES - NUMBER_BYTES;
 
-// A number laid from a place on.
-fn put(numbers: &mut [u8], from: usize, number: [u8; NUMBER_BYTES])
-    requires { from + 16 ≤ length numbers.old }
-    ensures { numbers.new ≡ sets numbers.old from number }
+// The number is the newest; in a full desk the oldest makes room.
+pub fn remember(desk: &mut Desk, number: &[u8; NUMBER_BYTES])
+    requires { desk.old.count ≤ remembers }
+    ensures { desk.new ≡ appended number.now desk.old }
 {
-    let mut i: usize = 0;
-    while i < NUMBER_BYTES {
-        numbers[from + i] = number[i];
-        i += 1;
+    if desk.count == REMEMBERED {
+        desk.numbers.copy_within(NUMBER_BYTES.., 0);
+        desk.numbers[LAST..].copy_from_slice(number);
+        return;
     }
-}
-
-// All but the oldest, a place further to the front.
-fn shift(numbers: &mut [u8])
-    requires { length numbers.old ≡ 1024 }
-    ensures { numbers.new ≡ drop 16 numbers.old ++ drop 1008 numbers.old }
-{
-    let mut i: usize = 0;
-    while i < LAST {
-        numbers[i] = numbers[i + NUMBER_BYTES];
-        i += 1;
-    }
-}
-
-// The number is the newest; answers how many are remembered then.
-pub fn remember(numbers: &mut [u8; DESK_BYTES], count: u32, number: [u8; NUMBER_BYTES]) -> u32
-    requires { count ≤ 64 }
-    ensures { desk_of result numbers.new ≡ appended number (desk_of count numbers.old) }
-{
-    if count < REMEMBERED {
-        put(&mut numbers[..], NUMBER_BYTES * (count as usize), number);
-        return count + 1;
-    }
-    shift(&mut numbers[..]);
-    put(&mut numbers[..], LAST, number);
-    count
+    let place = NUMBER_BYTES * desk.count as usize;
+    desk.numbers[place..place + NUMBER_BYTES].copy_from_slice(number);
+    desk.count += 1;
 }

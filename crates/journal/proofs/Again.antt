@@ -14,7 +14,7 @@ use Rattle.journal.specs.Walking.{walk}
 use Rattle.journal.specs.Writing.{carried_by, Fit, Writable, said_at, said_in, AllWritable}
 use Rattle.journal.specs.declared.records.Record.{Record}
 use Rattle.journal.specs.declared.records.Record.TheVariants.{Event, Interrupt, Write, Seed, Read, BlockingRead}
-use Rattle.journal.specs.declared.records.Found.TheVariants.{One}
+use Rattle.journal.specs.Found.{One}
 use Rattle.journal.proofs.Runs.{Bytes}
 use Rattle.journal.proofs.Onward.{stands}
 use Rattle.journal.proofs.Walks.{along_walk}

@@ -12,7 +12,7 @@ use Rattle.journal.specs.Reading.{read_at}
 use Rattle.journal.specs.Walking.{Entry, entry, onto, halt, walk}
 use Rattle.journal.specs.Cutting.{up_to, reached, boundary, enough, cut_number, cut_walk}
 use Rattle.journal.specs.declared.records.Record.{Record}
-use Rattle.journal.specs.declared.records.Found.TheVariants.{One, Stop, End}
+use Rattle.journal.specs.Found.{One, Stop, End}
 use Rattle.journal.proofs.Sides.{by_less}
 use Rattle.journal.proofs.Onward.{read_ahead, told_by, end_past}
 use Rattle.journal.proofs.Told.{none_to_tell, read_kept, read_off, read_none, read_shorter}

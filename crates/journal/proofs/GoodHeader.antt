@@ -2,19 +2,21 @@
 -- of it.
 use mathlib.Core.Path.{◌≡◌, refl, sym, ap, ap₂, ◌∙◌}
 use mathlib.Core.Bool.{Bool, true, false}
-use mathlib.Core.List.{List, ◌++◌}
+use mathlib.Core.List.{List, [], ◌∷◌, ◌++◌}
 use mathlib.Core.Logic.{◌⊎◌, inl, inr}
 use Prim.Native.Nat.{ℕ, suc, ◌+◌, ◌-◌, ◌≤◌, ◌<◌, min}
 use native.Mathlib.Omega.{arith}
 use borrow.Author.Tests.{ltb-false, lt-ltb, le-ltb, eqb-true, eq-eqb, ne_eqb, not-false}
+use lib.Dec.{eqb}
 use lib.ListN.{length, get_or, take, drop, length-take, length-drop, length-append, get_or-append}
 use lib.Seq.{get_or-take, take-append-le, drop-append-le}
+use Rattle.std.specs.Cmp.Lexicographic.{pointwise, same_text, other_text}
 use Rattle.ledger.specs.Choice.{pick}
 use Rattle.ledger.specs.Numbers.{mark_wrong, version_wrong, cut_short, journal_too_large}
 use Rattle.words.specs.Bytes.{le_number}
 use Rattle.journal.specs.Reading.{num}
 use Rattle.journal.specs.Header.{largest, records_begin, heading, known, refusal_within, header_within, header_of, version_of}
-use Rattle.journal.specs.declared.heading.Heading.{Heading}
+use Rattle.journal.specs.Found.{Heading}
 use Rattle.journal.proofs.Sides.{by_less, by_same}
 use Rattle.journal.proofs.Runs.{payload_cut}
 
@@ -100,6 +102,31 @@ module _ (n : ℕ) (j : List ℕ) where
 -- the number of a whole journal's header
 abbrev pub refusal_of : List ℕ → ℕ
 refusal_of j = refusal_within (length j) j
+
+-- ---- the mark's three letters, tested at once
+three : (j : List ℕ) → 3 ≤ length j → take 3 j ≡ get_or j 0 0 ∷ get_or j 1 0 ∷ get_or j 2 0 ∷ []
+three [] h = absurd (omega arith)
+three (a ∷ []) h = absurd (omega arith)
+three (a ∷ b ∷ []) h = absurd (omega arith)
+three (a ∷ b ∷ c ∷ j) h = refl
+
+module _ (j : List ℕ) (r : Bool) (is : r ≡ pointwise eqb (78 ∷ 75 ∷ 74 ∷ []) (take 3 j)) where
+  pub letters : r ≡ true → (get_or j 0 0 ≡ 78) × ((get_or j 1 0 ≡ 75) × (get_or j 2 0 ≡ 74))
+  letters t =
+      let e = same_text (78 ∷ 75 ∷ 74 ∷ []) (take 3 j) (sym t ∙ is) in
+      let at : (i : ℕ) → i < 3 → get_or j i 0 ≡ get_or (78 ∷ 75 ∷ 74 ∷ []) i 0 = λ i h. sym (get_or-take 3 j i 0 h) ∙ ap (λ (l : List ℕ). get_or l i 0) (sym e) in
+      (at 0 (omega arith), (at 1 (omega arith), at 2 (omega arith)))
+
+  pub unmarked : length j ≤ largest → r ≡ false → mark_wrong ≡ refusal_of j
+  unmarked l f =
+      by_less (length j) 3 (λ h. no_mark (length j) j l h)
+      (λ h. by_same (get_or j 0 0) 78
+      (λ a. by_same (get_or j 1 0) 75
+      (λ b. by_same (get_or j 2 0) 74
+      (λ c. absurd (other_text (78 ∷ 75 ∷ 74 ∷ []) (take 3 j) (sym f ∙ is) (rw (three j h, a, b, c) refl)))
+      (λ c. third_wrong (length j) j l h a b c))
+      (λ b. second_wrong (length j) j l h a b))
+      (λ a. first_wrong (length j) j l h a))
 
 -- ---- the header, by that number
 pub header_number : (j : List ℕ) → (header_of j).number ≡ refusal_of j

@@ -11,7 +11,7 @@ use Rattle.journal.specs.Reading.{read_at}
 use Rattle.journal.specs.Writing.{carried_by}
 use Rattle.journal.specs.Header.{header_of, start_of}
 use Rattle.journal.specs.declared.records.Record.{Record}
-use Rattle.journal.specs.declared.records.Found.TheVariants.{One}
+use Rattle.journal.specs.Found.{One}
 use Rattle.journal.proofs.Runs.{payload_cut}
 use Rattle.journal.proofs.Onward.{stands, read_ahead}
 use Rattle.journal.proofs.GoodHeader.{header_good}

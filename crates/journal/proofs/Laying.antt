@@ -2,10 +2,11 @@
 -- of each kind. Each law has the direction of the goal that it closes.
 use mathlib.Core.Path.{◌≡◌, refl, sym, ap, ◌∙◌}
 use mathlib.Core.List.{List, [], ◌∷◌, ◌++◌, append-nil, append_assoc}
-use Prim.Native.Nat.{ℕ, suc, ◌+◌, ◌/◌, ◌%◌}
+use Prim.Native.Nat.{ℕ, zero, suc, ◌+◌, ◌-◌, ◌/◌, ◌%◌, ◌≤◌}
 use native.Mathlib.Omega.{arith}
-use lib.ListN.{length, set, length-append}
-use lib.Seq.{sets}
+use borrow.Rule.Slice.PartMut.{put_mid}
+use lib.ListN.{length, set, take, length-append}
+use lib.Seq.{sets, sets-eq, drop-drop}
 use Rattle.words.specs.Bytes.{le_bytes}
 use Rattle.words.proofs.Numbers.{length_le_bytes}
 use Rattle.words.proofs.Rooms.{sets-append}
@@ -18,25 +19,19 @@ use Rattle.journal.specs.declared.records.Record.TheVariants.{Event, Interrupt, 
 pub then : (a b c : List ℕ) (at m : ℕ) (s t : List ℕ) → b ≡ sets a at s → m ≡ at + length s → c ≡ sets b m t → c ≡ sets a at (s ++ t)
 then a b c at m s t p e q = q ∙ rw (p, e) (sets-append a at s t)
 
--- ---- a number: its two bytes one by one, and its halves
-pub two_laid : (room : List ℕ) (at x : ℕ) → set (set room at (x % 256)) (at + 1) (x / 256 % 256) ≡ sets room at (le_bytes 2 x)
+-- ---- bytes copied as they are
+pub copied : (room bytes new : List ℕ) (at : ℕ) → at + length bytes ≤ length room → new ≡ bytes
+    → put_mid at (at + length bytes - at) room new ≡ sets room at bytes
+copied room bytes new at h e =
+    let k : at + length bytes - at ≡ length bytes = omega arith in
+    rw (e, k, drop-drop (length bytes) at room, sets-eq bytes room at h, append_assoc)
+
+-- ---- a number's lowest bytes
+pub lowest : (n m x : ℕ) → n ≤ m → take n (le_bytes m x) ≡ le_bytes n x
 unfolding le_bytes
-two_laid room at x = let e : at + 1 ≡ suc at = omega arith in rw e refl
-
-halves_4 : (x : ℕ) → le_bytes 2 x ++ le_bytes 2 (x / 65536) ≡ le_bytes 4 x
-unfolding le_bytes
-halves_4 x = let e : x / 65536 ≡ x / 256 / 256 = omega arith in rw e refl
-
-halves_8 : (x : ℕ) → le_bytes 4 x ++ le_bytes 4 (x / 4294967296) ≡ le_bytes 8 x
-unfolding le_bytes
-halves_8 x = let e : x / 4294967296 ≡ x / 256 / 256 / 256 / 256 = omega arith in rw e refl
-
-module _ (a b c : List ℕ) (at m x : ℕ) where
-  pub four_laid : b ≡ sets a at (le_bytes 2 x) → m ≡ at + 2 → c ≡ sets b m (le_bytes 2 (x / 65536)) → c ≡ sets a at (le_bytes 4 x)
-  four_laid p e q = then a b c at m (le_bytes 2 x) (le_bytes 2 (x / 65536)) p (omega (arith, e, length_le_bytes 2 x)) q ∙ ap (sets a at) (halves_4 x)
-
-  pub eight_laid : b ≡ sets a at (le_bytes 4 x) → m ≡ at + 4 → c ≡ sets b m (le_bytes 4 (x / 4294967296)) → c ≡ sets a at (le_bytes 8 x)
-  eight_laid p e q = then a b c at m (le_bytes 4 x) (le_bytes 4 (x / 4294967296)) p (omega (arith, e, length_le_bytes 4 x)) q ∙ ap (sets a at) (halves_8 x)
+lowest zero m x h = refl
+lowest (suc n) zero x h = absurd (omega arith)
+lowest (suc n) (suc m) x h = ap (λ (l : List ℕ). x % 256 ∷ l) (lowest n m (x / 256) (omega arith))
 
 -- ---- a kind, and fields behind it one by one
 laid-size : (ws fs : List ℕ) → length ws ≡ length fs → length (laid ws fs) ≡ sum ws

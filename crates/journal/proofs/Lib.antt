@@ -1,3 +1,4 @@
+pub mod Refused
 pub mod Sides
 pub mod Runs
 pub mod Cut

@@ -16,8 +16,7 @@ use Rattle.journal.specs.Header.{largest, version_of}
 use Rattle.journal.specs.Walking.{entry, onto, walk, walk_of, ending_of}
 use Rattle.journal.specs.Writing.{joined, further, further_on}
 use Rattle.journal.specs.declared.records.Record.{Record}
-use Rattle.journal.specs.declared.records.Found.{Found}
-use Rattle.journal.specs.declared.records.Found.TheVariants.{One, Stop, End}
+use Rattle.journal.specs.Found.{Found, One, Stop, End}
 use Rattle.journal.proofs.Walks.{along, walk_one, walk-stop, walk_end}
 use Rattle.journal.proofs.Appended.{append_journal}
 

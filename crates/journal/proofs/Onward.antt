@@ -15,8 +15,7 @@ use Rattle.journal.specs.Layout.{widths, sum, record_of, carries}
 use Rattle.journal.specs.Reading.{fields_in, carrying, opened, front, read_at}
 use Rattle.journal.specs.Cutting.{telling, enough}
 use Rattle.journal.specs.declared.records.Record.{Record}
-use Rattle.journal.specs.declared.records.Found.{Found}
-use Rattle.journal.specs.declared.records.Found.TheVariants.{One, Stop, End}
+use Rattle.journal.specs.Found.{Found, One, Stop, End}
 use Rattle.journal.proofs.Sides.{by_less}
 use Rattle.journal.proofs.Cut.{past}
 

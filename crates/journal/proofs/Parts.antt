@@ -1,24 +1,22 @@
--- What the proofs of the code share: numbers put together from their halves, the fields of each kind, what stands at a position, and the part
--- of a journal that is handed on. Each law has the direction of the goal that it closes.
+-- What the proofs of the code share: an event's device, the fields of each kind, and what stands at a position. Each law has the direction of
+-- the goal that it closes.
 use mathlib.Core.Path.{◌≡◌, refl, sym, ap, ap₂, ◌∙◌}
 use mathlib.Core.Bool.{false}
-use mathlib.Core.List.{List, [], ◌∷◌, ◌++◌}
-use Prim.Native.Nat.{ℕ, zero, suc, ◌+◌, ◌-◌, ◌*◌, ◌≤◌, ◌<◌}
+use mathlib.Core.List.{List, [], ◌∷◌}
+use Prim.Native.Nat.{ℕ, zero, suc, ◌+◌, ◌-◌, ◌≤◌, ◌<◌}
 use native.Mathlib.Omega.{arith}
 use borrow.Author.Tests.{lt-ltb, le-ltb, ne_eqb}
 use lib.Dec.{eqb}
-use lib.ListN.{length, get_or, take, drop, length-drop, drop_of_length-le}
-use lib.Seq.{drop-cons, drop-drop, take-add, take-nil, take_all, length-take-le}
+use lib.ListN.{length, get_or, take, drop, length-drop}
+use lib.Seq.{drop-cons, drop-drop}
 use Rattle.ledger.specs.Choice.{pick}
 use Rattle.ledger.specs.Numbers.{cut_short, unknown_kind}
 use Rattle.words.specs.Bytes.{le_number}
-use Rattle.words.proofs.Numbers.{le_number-append}
 use Rattle.journal.specs.Layout.{device_bytes, widths, sum, record_of, carries}
 use Rattle.journal.specs.Reading.{num, fields_in, carrying, opened, read_at}
 use Rattle.journal.specs.declared.records.Record.{Record}
 use Rattle.journal.specs.declared.records.Record.TheVariants.{Event, Interrupt, Write, Seed, Read, BlockingRead}
-use Rattle.journal.specs.declared.records.Found.{Found}
-use Rattle.journal.specs.declared.records.Found.TheVariants.{One, Stop}
+use Rattle.journal.specs.Found.{Found, One, Stop}
 use Rattle.journal.proofs.Onward.{opens}
 
 -- ---- numbers
@@ -29,29 +27,22 @@ num_1 [] (suc at) = refl
 num_1 (b ∷ j) zero = omega arith
 num_1 (b ∷ j) (suc at) = num_1 j at
 
+-- ---- the bytes of a number one by one
+next : (n k m : ℕ) (j : List ℕ) → k < length j → m ≡ suc k → take (suc n) (drop k j) ≡ get_or j k 0 ∷ take n (drop m j)
+next n k m j h e = rw (e, drop-cons j k 0 h) refl
+
 module _ (j : List ℕ) (at : ℕ) where
-  pub num_2 : at + 2 ≤ length j → num 2 j at ≡ get_or j at 0 + 256 * get_or j (at + 1) 0
-  unfolding le_number
-  num_2 h =
-      let e : at + 1 ≡ suc at = omega arith in
-      rw (e, drop-cons j at 0 (omega arith), drop-cons j (suc at) 0 (omega arith)) (omega arith)
+  pub two_there : at + 2 ≤ length j → get_or j at 0 ∷ get_or j (at + 1) 0 ∷ [] ≡ take 2 (drop at j)
+  two_there h = sym (rw (next 1 at (at + 1) j (omega arith) (omega arith), next 0 (at + 1) (at + 2) j (omega arith) (omega arith)) refl)
 
-  -- two runs of bytes
-  halves : (m n : ℕ) → at + m ≤ length j → num (m + n) j at ≡ le_number (take m (drop at j) ++ take n (drop (at + m) j))
-  halves m n h = ap le_number (take-add m n (drop at j) ∙ ap (λ (l : List ℕ). take m (drop at j) ++ take n l) (drop-drop m at j))
+  pub four_there : at + 4 ≤ length j → get_or j at 0 ∷ get_or j (at + 1) 0 ∷ get_or j (at + 2) 0 ∷ get_or j (at + 3) 0 ∷ [] ≡ take 4 (drop at j)
+  four_there h =
+      sym (rw (next 3 at (at + 1) j (omega arith) (omega arith), next 2 (at + 1) (at + 2) j (omega arith) (omega arith), next 1 (at + 2) (at + 3) j (omega arith) (omega arith), next 0 (at + 3) (at + 4) j (omega arith) (omega arith)) refl)
 
-  size : (m : ℕ) → at + m ≤ length j → length (take m (drop at j)) ≡ m
-  size m h = length-take-le m (drop at j) (rw (length-drop at j) (omega arith))
-
-  pub num_4 : at + 2 ≤ length j → num 4 j at ≡ num 2 j at + 65536 * num 2 j (at + 2)
-  num_4 h =
-      let e = halves 2 2 h ∙ le_number-append (take 2 (drop at j)) (take 2 (drop (at + 2) j)) in
-      rw (size 2 h) at e
-
-  pub num_8 : at + 4 ≤ length j → num 8 j at ≡ num 4 j at + 4294967296 * num 4 j (at + 4)
-  num_8 h =
-      let e = halves 4 4 h ∙ le_number-append (take 4 (drop at j)) (take 4 (drop (at + 4) j)) in
-      rw (size 4 h) at e
+  pub eight_there : at + 8 ≤ length j
+      → get_or j at 0 ∷ get_or j (at + 1) 0 ∷ get_or j (at + 2) 0 ∷ get_or j (at + 3) 0 ∷ get_or j (at + 4) 0 ∷ get_or j (at + 5) 0 ∷ get_or j (at + 6) 0 ∷ get_or j (at + 7) 0 ∷ [] ≡ take 8 (drop at j)
+  eight_there h =
+      sym (rw (next 7 at (at + 1) j (omega arith) (omega arith), next 6 (at + 1) (at + 2) j (omega arith) (omega arith), next 5 (at + 2) (at + 3) j (omega arith) (omega arith), next 4 (at + 3) (at + 4) j (omega arith) (omega arith), next 3 (at + 4) (at + 5) j (omega arith) (omega arith), next 2 (at + 5) (at + 6) j (omega arith) (omega arith), next 1 (at + 6) (at + 7) j (omega arith) (omega arith), next 0 (at + 7) (at + 8) j (omega arith) (omega arith)) refl)
 
 -- a device's
 pub narrow : (v : ℕ) → v ≡ 1 → 1 ≡ device_bytes v
@@ -152,14 +143,3 @@ other v j at (suc (suc (suc (suc zero)))) a b c d e f = elim (d refl) [ ]
 other v j at (suc (suc (suc (suc (suc zero))))) a b c d e f = elim (e refl) [ ]
 other v j at (suc (suc (suc (suc (suc (suc zero)))))) a b c d e f = elim (f refl) [ ]
 other v j at (suc (suc (suc (suc (suc (suc (suc k))))))) a b c d e f = refl
-
--- as many bytes as there are
-module _ (j : List ℕ) (start len : ℕ) where
-  pub beyond : length j ≤ start → [] ≡ take len (drop start j)
-  beyond h = rw (drop_of_length-le, take-nil)
-
-  pub up_to_the_end : length j - start ≤ len → take (length j - start) (drop start j) ≡ take len (drop start j)
-  up_to_the_end h =
-      let a : length (drop start j) ≤ length j - start = rw length-drop (omega arith) in
-      let b : length (drop start j) ≤ len = rw length-drop h in
-      take_all _ _ a ∙ sym (take_all _ _ b)

@@ -13,7 +13,7 @@ use Rattle.ledger.specs.Numbers.{cut_short}
 use Rattle.journal.specs.Reading.{read_at}
 use Rattle.journal.specs.Cutting.{enough}
 use Rattle.journal.specs.declared.records.Record.{Record}
-use Rattle.journal.specs.declared.records.Found.TheVariants.{One, Stop, End}
+use Rattle.journal.specs.Found.{One, Stop, End}
 use Rattle.journal.proofs.Cut.{read_cut}
 use Rattle.journal.proofs.Onward.{read_ahead, told_by, one_is_not_end, stop_is_not_one}
 

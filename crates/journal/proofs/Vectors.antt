@@ -15,7 +15,7 @@ use Rattle.journal.specs.Walking.{Entry, Walk, walk_from, walk, behind, walk_of,
 use Rattle.journal.specs.Cutting.{up_to, reached, boundary, telling, enough, cut_number, cut_walk, walk_within}
 use Rattle.journal.specs.declared.records.Record.{Record}
 use Rattle.journal.specs.declared.records.Record.TheVariants.{Event, Interrupt, Write, Seed, Read, BlockingRead}
-use Rattle.journal.specs.declared.records.Found.TheVariants.{One}
+use Rattle.journal.specs.Found.{One}
 use Rattle.journal.proofs.GoodHeader.{header_number, too_large as Header·too-large}
 use Rattle.journal.proofs.Walks.{bad_walk}
 

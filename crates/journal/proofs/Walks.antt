@@ -9,10 +9,8 @@ use Rattle.ledger.specs.Choice.{pick}
 use Rattle.journal.specs.Reading.{read_at}
 use Rattle.journal.specs.Header.{records_begin, header_of, version_of}
 use Rattle.journal.specs.Walking.{entry, Walk, onto, halt, step, walk_from, walk, behind, walk_of, ending_of}
-use Rattle.journal.specs.declared.heading.Heading.{Heading}
+use Rattle.journal.specs.Found.{Found, One, Stop, End, Heading}
 use Rattle.journal.specs.declared.records.Record.{Record}
-use Rattle.journal.specs.declared.records.Found.{Found}
-use Rattle.journal.specs.declared.records.Found.TheVariants.{One, Stop, End}
 use Rattle.journal.proofs.Cut.{past}
 use Rattle.journal.proofs.Onward.{read_ahead}
 use Rattle.journal.proofs.GoodHeader.{heading_good}

@@ -15,7 +15,7 @@ use Rattle.journal.specs.Header.{largest, records_begin, heading, known, header_
 use Rattle.journal.specs.Reading.{num}
 use Rattle.journal.specs.Walking.{walk, walk_of, ending_of}
 use Rattle.journal.specs.Writing.{header_for, Said, said_in, written, journal_of, AllWritable}
-use Rattle.journal.specs.declared.heading.Heading.{Heading}
+use Rattle.journal.specs.Found.{Heading}
 use Rattle.journal.proofs.Sides.{by_same}
 use Rattle.journal.proofs.GoodHeader.{GoodHeader, good_header}
 use Rattle.journal.proofs.Walks.{good_walk}

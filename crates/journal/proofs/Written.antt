@@ -15,7 +15,7 @@ use Rattle.journal.specs.Reading.{fields_in, carrying, opened, front, read_at}
 use Rattle.journal.specs.Writing.{laid, head_of, bytes_of, carried_by, Fit, Writable}
 use Rattle.journal.specs.declared.records.Record.{Record}
 use Rattle.journal.specs.declared.records.Record.TheVariants.{Event, Interrupt, Write, Seed, Read, BlockingRead}
-use Rattle.journal.specs.declared.records.Found.TheVariants.{One}
+use Rattle.journal.specs.Found.{One}
 use Rattle.journal.proofs.Runs.{Bytes, read-laid, laid-read, laid-length}
 use Rattle.journal.proofs.Onward.{stands}
 

@@ -5,7 +5,7 @@ use Rattle.ledger.specs.Choice.{pick}
 use Rattle.ledger.specs.Sizes.{start_bytes}
 use Rattle.ledger.specs.Numbers.{mark_wrong, version_wrong, cut_short, journal_too_large}
 use Rattle.journal.specs.Reading.{num}
-use Rattle.journal.specs.declared.heading.Heading.{Heading}
+use Rattle.journal.specs.Found.{Heading}
 
 -- the most bytes of a journal; and where its records begin, behind the mark, the version and the start bytes
 abbrev pub largest : ℕ

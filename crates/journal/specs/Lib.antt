@@ -1,3 +1,4 @@
+pub mod Found
 pub mod Layout
 pub mod Reading
 pub mod Header

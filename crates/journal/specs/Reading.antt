@@ -7,8 +7,7 @@ use Rattle.ledger.specs.Numbers.{too_long, cut_short, unknown_kind}
 use Rattle.words.specs.Bytes.{le_number}
 use Rattle.journal.specs.Layout.{widths, sum, record_of, carries}
 use Rattle.journal.specs.declared.records.Record.{Record}
-use Rattle.journal.specs.declared.records.Found.{Found}
-use Rattle.journal.specs.declared.records.Found.TheVariants.{One, Stop, End}
+use Rattle.journal.specs.Found.{Found, One, Stop, End}
 
 -- the number that the n bytes at a position make, the lowest first
 abbrev pub num : ℕ → List ℕ → ℕ → ℕ

@@ -3,10 +3,8 @@ use Rattle.std.specs.Prelude.{ℕ, zero, suc, List, [], ◌∷◌, length, eqb}
 use Rattle.ledger.specs.Choice.{pick}
 use Rattle.journal.specs.Reading.{read_at}
 use Rattle.journal.specs.Header.{header_of}
-use Rattle.journal.specs.declared.heading.Heading.{Heading}
+use Rattle.journal.specs.Found.{Found, One, Stop, End, Heading}
 use Rattle.journal.specs.declared.records.Record.{Record}
-use Rattle.journal.specs.declared.records.Found.{Found}
-use Rattle.journal.specs.declared.records.Found.TheVariants.{One, Stop, End}
 
 -- a record, where it stands, and the position after it
 pub record Entry : Type 0 where

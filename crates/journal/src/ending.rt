@@ -1,31 +1,20 @@
 // A journal judged as a whole, without running it.
 ghost use Rattle.std.specs.Prelude.{◌≡◌};
+ghost use Rattle.ledger.specs.Refusals.{number_given};
 ghost use Rattle.journal.specs.Walking.{ending_of};
 
 use crate::heading::header;
-use crate::records::{Found, read};
+use crate::records::read;
+use ledger::Refusal;
 
-// The number that the journal ends with: 0 where its last record is whole.
-pub fn scan(j: &[u8]) -> u32
-    ensures { result ≡ ending_of j.now }
+// Whether the journal's last record is whole; if not, why the journal ends where it does.
+pub fn scan(j: &[u8]) -> Result<(), Refusal>
+    ensures { number_given result ≡ ending_of j.now }
 {
-    let h = header(j);
-    if h.number != 0 {
-        return h.number;
-    }
-    let version = h.version;
+    let h = header(j)?;
     let mut at = h.place;
-    loop {
-        match read(version, j, at) {
-            Found::One(_, next) => {
-                at = next;
-            }
-            Found::Stop(number) => {
-                return number;
-            }
-            Found::End => {
-                return 0;
-            }
-        }
+    while let Some((_, next)) = read(h.version, j, at)? {
+        at = next;
     }
+    Ok(())
 }

@@ -1,63 +1,31 @@
-// A header and records laid into a room that is lent, one behind another. Each function answers the place behind what it laid.
+// A header and records laid into a room that is lent, one behind another. Each function answers the place behind what it laid. The room and the place
+// go side by side and not as one value, as a text's do in `transcript`: `put` is called with a place, and its promise is of the room.
 ghost use Rattle.std.specs.Prelude.{◌≡◌, [], ◌∷◌, ◌+◌, ◌≤◌, length};
 ghost use Rattle.std.proofs.lemmas.List.Edits.{sets};
 ghost use Rattle.words.specs.Bytes.{le_bytes};
-ghost use Rattle.journal.specs.Layout.{device_bytes};
 ghost use Rattle.journal.specs.Writing.{laid, head_of, bytes_of, header_for};
 
 use crate::records::Record;
-
-// The lowest two bytes of a number, the lowest first.
-fn lay_two(x: u64, room: &mut [u8], at: usize) -> usize
-    requires { at + 2 ≤ length room.old }
-    ensures { (room.new ≡ sets room.old at (le_bytes 2 x)) × (result ≡ at + 2) }
-{
-    room[at] = (x % 256) as u8;
-    room[at + 1] = (x / 256 % 256) as u8;
-    at + 2
-}
-
-// The lowest four.
-fn lay_four(x: u64, room: &mut [u8], at: usize) -> usize
-    requires { at + 4 ≤ length room.old }
-    ensures { (room.new ≡ sets room.old at (le_bytes 4 x)) × (result ≡ at + 4) }
-{
-    let half = lay_two(x, room, at);
-    lay_two(x / 65536, room, half)
-}
-
-// All eight.
-fn lay_eight(x: u64, room: &mut [u8], at: usize) -> usize
-    requires { at + 8 ≤ length room.old }
-    ensures { (room.new ≡ sets room.old at (le_bytes 8 x)) × (result ≡ at + 8) }
-{
-    let half = lay_four(x, room, at);
-    lay_four(x / 4294967296, room, half)
-}
-
-// An event's device: in version 1 a byte, else two.
-fn lay_device(version: u32, device: u32, room: &mut [u8], at: usize) -> usize
-    requires { at + device_bytes version ≤ length room.old }
-    ensures { (room.new ≡ sets room.old at (le_bytes (device_bytes version) device)) × (result ≡ at + device_bytes version) }
-{
-    if version == 1 {
-        room[at] = (device % 256) as u8;
-        return at + 1;
-    }
-    lay_two(device as u64, room, at)
-}
+use crate::versions::device_bytes;
+use words::bytes_of_u64;
 
 // Bytes as they are.
-fn lay_bytes(bytes: &[u8], room: &mut [u8], at: usize) -> usize
+#[tactic(auto, using(crate::proofs::Laying::copied))]
+fn lay(bytes: &[u8], room: &mut [u8], at: usize) -> usize
     requires { at + length bytes.now ≤ length room.old }
     ensures { (room.new ≡ sets room.old at bytes.now) × (result ≡ at + length bytes.now) }
 {
-    let mut i: usize = 0;
-    while i < bytes.len() {
-        room[at + i] = bytes[i];
-        i += 1;
-    }
-    at + bytes.len()
+    let end = at + bytes.len();
+    room[at..end].copy_from_slice(bytes);
+    end
+}
+
+// A number in so many bytes, the lowest first.
+fn lay_number(x: u64, width: usize, room: &mut [u8], at: usize) -> usize
+    requires { (width ≤ 8) × (at + width ≤ length room.old) }
+    ensures { (room.new ≡ sets room.old at (le_bytes width x)) × (result ≡ at + width) }
+{
+    lay(&bytes_of_u64(x)[..width], room, at)
 }
 
 // A kind, and the clock that every record has.
@@ -66,7 +34,7 @@ fn lay_clock(kind: u8, clock: u32, room: &mut [u8], at: usize) -> usize
     ensures { (room.new ≡ sets room.old at (kind ∷ laid (4 ∷ []) (clock ∷ []))) × (result ≡ at + 5) }
 {
     room[at] = kind;
-    lay_four(clock as u64, room, at + 1)
+    lay_number(clock as u64, 4, room, at + 1)
 }
 
 // The head of kinds 3, 5 and 6, and what kind 4 begins with.
@@ -74,54 +42,8 @@ fn lay_length(kind: u8, clock: u32, len: u64, room: &mut [u8], at: usize) -> usi
     requires { at + 7 ≤ length room.old }
     ensures { (room.new ≡ sets room.old at (kind ∷ laid (4 ∷ 2 ∷ []) (clock ∷ len ∷ []))) × (result ≡ at + 7) }
 {
-    let behind = lay_clock(kind, clock, room, at);
-    lay_two(len, room, behind)
-}
-
-// The head of kind 1.
-fn lay_event(
-    version: u32,
-    clock: u32,
-    device: u32,
-    stamp: u64,
-    value: u32,
-    room: &mut [u8],
-    at: usize,
-) -> usize
-    requires { at + (17 + device_bytes version) ≤ length room.old }
-    ensures { (room.new ≡ sets room.old at (1 ∷ laid (4 ∷ device_bytes version ∷ 8 ∷ 4 ∷ []) (clock ∷ device ∷ stamp ∷ value ∷ []))) × (result ≡ at + (17 + device_bytes version)) }
-{
-    let a = lay_clock(1, clock, room, at);
-    let b = lay_device(version, device, room, a);
-    let c = lay_eight(stamp, room, b);
-    lay_four(value as u64, room, c)
-}
-
-// The head of kind 2.
-fn lay_interrupt(
-    clock: u32,
-    number: u32,
-    stamp: u64,
-    address: u64,
-    room: &mut [u8],
-    at: usize,
-) -> usize
-    requires { at + 25 ≤ length room.old }
-    ensures { (room.new ≡ sets room.old at (2 ∷ laid (4 ∷ 4 ∷ 8 ∷ 8 ∷ []) (clock ∷ number ∷ stamp ∷ address ∷ []))) × (result ≡ at + 25) }
-{
-    let a = lay_clock(2, clock, room, at);
-    let b = lay_four(number as u64, room, a);
-    let c = lay_eight(stamp, room, b);
-    lay_eight(address, room, c)
-}
-
-// The head of kind 4.
-fn lay_seed(clock: u32, len: u64, credit: u32, room: &mut [u8], at: usize) -> usize
-    requires { at + 11 ≤ length room.old }
-    ensures { (room.new ≡ sets room.old at (4 ∷ laid (4 ∷ 2 ∷ 4 ∷ []) (clock ∷ len ∷ credit ∷ []))) × (result ≡ at + 11) }
-{
-    let behind = lay_length(4, clock, len, room, at);
-    lay_four(credit as u64, room, behind)
+    let length_at = lay_clock(kind, clock, room, at);
+    lay_number(len, 2, room, length_at)
 }
 
 // A record's kind and its fields.
@@ -135,15 +57,28 @@ fn lay_head(version: u32, it: Record, room: &mut [u8], at: usize) -> usize
             device,
             stamp,
             value,
-        } => lay_event(version, now, device, stamp, value, room, at),
+        } => {
+            let device_at = lay_clock(1, now, room, at);
+            let stamp_at = lay_number(device as u64, device_bytes(version), room, device_at);
+            let value_at = lay_number(stamp, 8, room, stamp_at);
+            lay_number(value as u64, 4, room, value_at)
+        }
         Record::Interrupt {
             now,
             number,
             stamp,
             address,
-        } => lay_interrupt(now, number, stamp, address, room, at),
+        } => {
+            let number_at = lay_clock(2, now, room, at);
+            let stamp_at = lay_number(number as u64, 4, room, number_at);
+            let address_at = lay_number(stamp, 8, room, stamp_at);
+            lay_number(address, 8, room, address_at)
+        }
         Record::Write { now, len } => lay_length(3, now, len as u64, room, at),
-        Record::Seed { now, len, credit } => lay_seed(now, len as u64, credit, room, at),
+        Record::Seed { now, len, credit } => {
+            let credit_at = lay_length(4, now, len as u64, room, at);
+            lay_number(credit as u64, 4, room, credit_at)
+        }
         Record::Read { now, len } => lay_length(5, now, len as u64, room, at),
         Record::BlockingRead { now, len } => lay_length(6, now, len as u64, room, at),
     }
@@ -156,7 +91,7 @@ pub fn put(version: u32, it: Record, carried: &[u8], room: &mut [u8], at: usize)
     ensures value { result ≡ at + length (bytes_of version it carried.now) }
 {
     let behind = lay_head(version, it, room, at);
-    lay_bytes(carried, room, behind)
+    lay(carried, room, behind)
 }
 
 // The header of a journal that begins with these bytes, at the room's start.
@@ -165,9 +100,7 @@ pub fn put_header(version: u32, start: &[u8], room: &mut [u8]) -> usize
     ensures room_after { room.new ≡ sets room.old 0 (header_for version start.now) }
     ensures value { result ≡ length (header_for version start.now) }
 {
-    room[0] = b'N';
-    room[1] = b'K';
-    room[2] = b'J';
-    let behind = lay_two(version as u64, room, 3);
-    lay_bytes(start, room, behind)
+    let version_at = lay(b"NKJ", room, 0);
+    let start_at = lay_number(version as u64, 2, room, version_at);
+    lay(start, room, start_at)
 }

@@ -6,9 +6,8 @@ use Prim.Native.Nat.{ℕ}
 use Rattle.ledger.specs.Choice.{pick}
 use Rattle.desk.specs.Desks.{same}
 use Rattle.lab.specs.Numbers.{digit, all_digits, is_number, decimal}
-use Rattle.lab.specs.Clocks.{is_clock, clock_of}
+use Rattle.lab.specs.Clocks.{Clock, is_clock, clock_of}
 use Rattle.lab.specs.Classes.{hex_value, is_hex, bytes_of, Said, no_class, class_field, drill_word, live_word, field_of}
-use Rattle.lab.specs.declared.clocks.Clock.{Clock}
 
 -- ---- classes: `drill` and `44`, `live`, `4c` and `4C`; `4444` is a field of two bytes, and no word at all is a field of none
 pub drill_word_lem : field_of drill_word ≡ class_field (0x44 ∷ [])

@@ -9,8 +9,7 @@ use lib.ListN.{length, get_or, drop, drop_of_length-le}
 use lib.Seq.{drop-cons}
 use Rattle.ledger.specs.Choice.{pick}
 use Rattle.lab.specs.Numbers.{is_number, decimal}
-use Rattle.lab.specs.Clocks.{is_clock, clock_of}
-use Rattle.lab.specs.declared.clocks.Clock.{Clock}
+use Rattle.lab.specs.Clocks.{Clock, is_clock, clock_of}
 use Rattle.lab.proofs.Digits.{grows}
 
 abbrev none : Clock

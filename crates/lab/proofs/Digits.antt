@@ -1,25 +1,29 @@
 -- A word read digit by digit: what is left gives the whole; and what is read is the number that the digits make, as far as a record number goes.
-use mathlib.Core.Path.{◌≡◌, refl, ap, ◌∙◌}
-use mathlib.Core.Bool.{true, false}
+use mathlib.Core.Path.{◌≡◌, refl, sym, ap, ◌∙◌}
+use mathlib.Core.Bool.{Bool, true, false}
 use mathlib.Core.List.{List, [], ◌∷◌}
+use Rattle.std.specs.Prelude.{Option, Some, None, min, take_while, eqb, leb}
+use Rattle.std.proofs.lemmas.Option.{none-some, same_Some}
+use Rattle.std.proofs.lemmas.List.Sums.{take_while-cons}
 use Prim.Native.Nat.{ℕ, suc, ◌+◌, ◌-◌, ◌*◌, ◌≤◌, ◌<◌}
 use native.Mathlib.Omega.{arith}
-use borrow.Author.Tests.{le-leb, lt-leb, lt-ltb, le-ltb, eq-eqb, ne_eqb}
+use borrow.Author.Tests.{leb-true, le-leb, lt-leb, lt-ltb, le-ltb}
 use lib.ListN.{length, get_or, drop, drop_of_length-le}
 use lib.Seq.{drop-cons}
 use Rattle.ledger.specs.Choice.{pick}
+use Rattle.ledger.proofs.Picks.{and_left, and_right}
 use Rattle.journal.proofs.Sides.{by_less}
 use Rattle.lab.specs.Numbers.{digit, all_digits, is_number, decimal, onward, zeros_before}
 
-is_digit : (b : ℕ) → 48 ≤ b → b ≤ 57 → digit b ≡ true
+pub is_digit : (b : ℕ) → 48 ≤ b → b ≤ 57 → digit b ≡ true
 unfolding digit
 is_digit b h l = rw (le-leb 48 b h, le-leb b 57 l) refl
 
-below : (b : ℕ) → b < 48 → digit b ≡ false
+pub below : (b : ℕ) → b < 48 → digit b ≡ false
 unfolding digit
 below b h = rw (lt-leb 48 b h) refl
 
-above : (b : ℕ) → 57 < b → digit b ≡ false
+pub above : (b : ℕ) → 57 < b → digit b ≡ false
 unfolding digit
 above b h = rw (le-leb 48 b (omega (arith, h)), lt-leb b 57 h) refl
 
@@ -33,19 +37,45 @@ unfolding is_number
 none [] h = refl
 none (b ∷ bs) h = absurd (omega (arith, h))
 
+-- what a byte counts: what it says of the byte that it counts something, and that it does not
+some_by : (t : Bool) (n d : ℕ) → ◌≡◌ {A = Option ℕ} (Some d) (pick t (Some n) None) → (t ≡ true) × (d ≡ n)
+unfolding pick
+some_by true n d e = (refl, same_Some d n e)
+some_by false n d e = absurd (none-some d (sym e))
+
+none_by : (t : Bool) (n : ℕ) → ◌≡◌ {A = Option ℕ} None (pick t (Some n) None) → t ≡ false
+unfolding pick
+none_by true n e = absurd (none-some n e)
+none_by false n e = refl
+
+module _ (b : ℕ) where
+  pub counts : (d : ℕ) → ◌≡◌ {A = Option ℕ} (Some d) (pick (digit b) (Some (b - 48)) None) → (digit b ≡ true) × (d ≡ b - 48)
+  counts d e = some_by (digit b) (b - 48) d e
+
+  pub counts_not : ◌≡◌ {A = Option ℕ} None (pick (digit b) (Some (b - 48)) None) → digit b ≡ false
+  counts_not e = none_by (digit b) (b - 48) e
+
+  pub counted : (d : ℕ) → d ≡ b - 48 → 48 ≤ b → b ≤ 57 → ◌≡◌ {A = Option ℕ} (Some d) (pick (digit b) (Some (b - 48)) None)
+  unfolding pick
+  counted d e h l = rw (is_digit b h l, e) refl
+
+  pub uncounted : digit b ≡ false → ◌≡◌ {A = Option ℕ} None (pick (digit b) (Some (b - 48)) None)
+  unfolding pick
+  uncounted e = rw e refl
+
+  pub in_digits : digit b ≡ true → (48 ≤ b) × (b ≤ 57)
+  unfolding digit
+  in_digits e = (leb-true 48 b (and_left _ _ e), leb-true b 57 (and_right (leb 48 b) _ e))
+
 module _ (w : List ℕ) (i : ℕ) (h : i < length w) where
-  pub another : (v : ℕ) → 48 ≤ get_or w i 0 → get_or w i 0 ≤ 57
+  pub another : (v : ℕ) → digit (get_or w i 0) ≡ true
       → (all_digits (drop i w) ≡ all_digits (drop (suc i) w)) × (onward v (drop i w) ≡ onward (onward v (get_or w i 0 ∷ [])) (drop (suc i) w))
   unfolding all_digits onward pick
-  another v a b = rw (drop-cons w i 0 h, is_digit (get_or w i 0) a b) (refl, refl)
+  another v e = rw (drop-cons w i 0 h, e) (refl, refl)
 
-  pub too_low : get_or w i 0 < 48 → all_digits (drop i w) ≡ false
+  pub no_digit : digit (get_or w i 0) ≡ false → all_digits (drop i w) ≡ false
   unfolding all_digits pick
-  too_low a = rw (drop-cons w i 0 h, below (get_or w i 0) a) refl
-
-  pub too_high : 57 < get_or w i 0 → all_digits (drop i w) ≡ false
-  unfolding all_digits pick
-  too_high a = rw (drop-cons w i 0 h, above (get_or w i 0) a) refl
+  no_digit e = rw (drop-cons w i 0 h, e) refl
 
 pub all_read : (w : List ℕ) (i : ℕ) → length w ≤ i → (all_digits (drop i w) ≡ true) × ((v : ℕ) → onward v (drop i w) ≡ v)
 unfolding all_digits onward
@@ -77,32 +107,17 @@ read_same (d ∷ ds) v =
     rw (le-ltb v 100000 h, s) (record { small = λ l. absurd (omega (arith, h, l)); large = λ l. omega (arith, g, h) }))
 
 -- ---- zeros that a number does not need
+pub zeros_least : (w : List ℕ) → min (length (take_while (λ b. eqb b 48) w)) (length w - 1) ≡ zeros_before w
+unfolding zeros_before pick
+zeros_least [] = refl
+zeros_least (b ∷ []) = omega arith
+zeros_least (b ∷ c ∷ bs) = by (eqb b 48) refl (zeros_least (c ∷ bs))
+  where
+    by : (t : Bool) → eqb b 48 ≡ t → min (length (take_while (λ x. eqb x 48) (c ∷ bs))) (length (c ∷ bs) - 1) ≡ zeros_before (c ∷ bs)
+        → min (length (take_while (λ x. eqb x 48) (b ∷ c ∷ bs))) (length (b ∷ c ∷ bs) - 1) ≡ pick (eqb b 48) (suc (zeros_before (c ∷ bs))) 0
+    by true e r = rw (take_while-cons (λ x. eqb x 48) b (c ∷ bs), e) (omega (arith, r))
+    by false e r = rw (take_while-cons (λ x. eqb x 48) b (c ∷ bs), e) (omega arith)
+
+-- ---- two letters that are left
 pub two_left : (w : List ℕ) (i : ℕ) → suc i < length w → drop i w ≡ get_or w i 0 ∷ (get_or w (suc i) 0 ∷ drop (suc (suc i)) w)
 two_left w i h = drop-cons w i 0 (omega (arith, h)) ∙ ap (λ (r : List ℕ). get_or w i 0 ∷ r) (drop-cons w (suc i) 0 h)
-
-module _ (w : List ℕ) (i : ℕ) where
-  pub last_digit : length w - i ≡ 1 → zeros_before (drop i w) ≡ 0
-  unfolding zeros_before
-  last_digit h =
-      let l : i < length w = omega (arith, h) in
-      let k : length w ≤ suc i = omega (arith, h) in
-      rw (drop-cons w i 0 l, drop_of_length-le w k) refl
-
-  module _ (h : i < length w) (n : length w - i ≡ 1 → ⊥) where
-    pub more : suc i < length w
-    more = by_less (suc i) (length w) (λ l. l) (λ l. absurd (n (omega (arith, h, l))))
-
-    pub no_zero : (get_or w i 0 ≡ 48 → ⊥) → zeros_before (drop i w) ≡ 0
-    unfolding zeros_before pick
-    no_zero z = rw (two_left w i more, ne_eqb (get_or w i 0) 48 z) refl
-
-    pub one_zero : get_or w i 0 ≡ 48 → zeros_before (drop i w) ≡ suc (zeros_before (drop (suc i) w))
-    unfolding zeros_before pick
-    one_zero z = rw (two_left w i more, eq-eqb (get_or w i 0) 48 z, drop-cons w (suc i) 0 more) refl
-
-  pub no_more : length w ≤ i → zeros_before (drop i w) ≡ 0
-  unfolding zeros_before
-  no_more h = rw (drop_of_length-le w h) refl
-
-pub false_is_not_true : false ≡ true → ⊥
-false_is_not_true e = let z : ◌≡◌ {A = ℕ} 0 1 = cc in absurd (omega arith)

@@ -4,7 +4,8 @@ use mathlib.Core.Bool.{Bool, true, false, ◌&&◌, false≢true}
 use mathlib.Core.List.{List, [], ◌∷◌}
 use Prim.Native.Nat.{ℕ, suc, ◌+◌, ◌-◌, ◌*◌, ◌/◌, ◌%◌, ◌≤◌, ◌<◌}
 use native.Mathlib.Omega.{arith}
-use borrow.Author.Tests.{leb-true, le-leb, lt-leb, lt-ltb, le-ltb, ltb-true}
+use borrow.Author.Tests.{le-leb, lt-leb, lt-ltb, le-ltb, ltb-true}
+use Rattle.std.specs.List.{list_all}
 use lib.ListN.{length, get_or, set, drop, drop_of_length-le}
 use lib.Seq.{sets, drop-cons}
 use Rattle.ledger.specs.Choice.{pick}
@@ -14,32 +15,41 @@ use Rattle.transcript.specs.Text.{Put, glyph_of, hex_of}
 use Rattle.desk.specs.Sizes.{drill, live}
 use Rattle.desk.specs.Desks.{same}
 use Rattle.desk.proofs.NewNumbers.{same_eq}
-use Rattle.lab.specs.Classes.{in_run, hex_value, is_digit, is_hex, bytes_of, Said, no_class, class_field, drill_word, live_word, field_of, Gives}
-use Rattle.lab.specs.declared.classes.Class.{Class}
+use Rattle.lab.specs.Classes.{hex_value, is_digit, is_hex, bytes_of, Said, no_class, class_field, drill_word, live_word, field_of, Class, Gives}
 use Rattle.lab.proofs.Digits.{two_left}
 
 -- ---- a digit
-pub at_least : (low high b : ℕ) → in_run low high b ≡ true → low ≤ b
-at_least low high b e = leb-true low b (and_left _ _ e)
-
 module _ (b : ℕ) where
-  pub decimal_digit : in_run 48 57 b ≡ true → b - 48 ≡ hex_value b
+  pub decimal_digit : 48 ≤ b → b ≤ 57 → b - 48 ≡ hex_value b
   unfolding hex_value pick
-  decimal_digit e = rw e refl
+  decimal_digit h l = rw (le-leb 48 b h, le-leb b 57 l) refl
 
-  module _ (e : in_run 48 57 b ≡ false) where
-    pub upper_digit : in_run 65 70 b ≡ true → b - 65 + 10 ≡ hex_value b
-    unfolding hex_value pick
-    upper_digit f = rw (e, f) refl
+  pub upper_digit : 65 ≤ b → b ≤ 70 → b - 65 + 10 ≡ hex_value b
+  unfolding hex_value pick
+  upper_digit h l = rw (le-leb 48 b (omega arith), lt-leb b 57 (omega arith), le-leb 65 b h, le-leb b 70 l) refl
 
-    module _ (f : in_run 65 70 b ≡ false) where
-      pub lower_digit : in_run 97 102 b ≡ true → b - 97 + 10 ≡ hex_value b
-      unfolding hex_value pick
-      lower_digit g = rw (e, f, g) refl
+  pub lower_digit : 97 ≤ b → b ≤ 102 → b - 97 + 10 ≡ hex_value b
+  unfolding hex_value pick
+  lower_digit h l =
+      rw (le-leb 48 b (omega arith), lt-leb b 57 (omega arith), le-leb 65 b (omega arith), lt-leb b 70 (omega arith), le-leb 97 b h, le-leb b 102 l) refl
 
-      pub no_digit : in_run 97 102 b ≡ false → 16 ≡ hex_value b
-      unfolding hex_value pick
-      no_digit g = rw (e, f, g) refl
+  pub below_digits : b < 48 → 16 ≡ hex_value b
+  unfolding hex_value pick
+  below_digits h = rw (lt-leb 48 b h, lt-leb 65 b (omega arith), lt-leb 97 b (omega arith)) refl
+
+  pub above_decimal : 57 < b → b < 65 → 16 ≡ hex_value b
+  unfolding hex_value pick
+  above_decimal h l = rw (le-leb 48 b (omega arith), lt-leb b 57 h, lt-leb 65 b l, lt-leb 97 b (omega arith)) refl
+
+  pub above_upper : 70 < b → b < 97 → 16 ≡ hex_value b
+  unfolding hex_value pick
+  above_upper h l =
+      rw (le-leb 48 b (omega arith), lt-leb b 57 (omega arith), le-leb 65 b (omega arith), lt-leb b 70 h, lt-leb 97 b l) refl
+
+  pub above_lower : 102 < b → 16 ≡ hex_value b
+  unfolding hex_value pick
+  above_lower h =
+      rw (le-leb 48 b (omega arith), lt-leb b 57 (omega arith), le-leb 65 b (omega arith), lt-leb b 70 (omega arith), le-leb 97 b (omega arith), lt-leb b 102 h) refl
 
 -- ---- the letters from a place on
 and-false : (a : Bool) → (a && false) ≡ false
@@ -54,26 +64,8 @@ module _ (w : List ℕ) (i : ℕ) where
       let k : length w ≤ suc i = omega (arith, h) in
       rw (drop-cons w i 0 l, drop_of_length-le w k) refl
 
-  pub all_seen : length w ≤ i → is_hex (drop i w) ≡ true
-  unfolding is_hex
-  all_seen h = rw (drop_of_length-le w h) refl
-
   module _ (h : suc i < length w) where
-    pub first_wrong : 15 < hex_value (get_or w i 0) → is_hex (drop i w) ≡ false
-    unfolding is_hex
-    first_wrong x = rw (two_left w i h, le-ltb (hex_value (get_or w i 0)) 16 (omega (arith, x))) refl
-
-    pub second_wrong : 15 < hex_value (get_or w (suc i) 0) → is_hex (drop i w) ≡ false
-    unfolding is_hex
-    second_wrong x =
-        rw (two_left w i h, le-ltb (hex_value (get_or w (suc i) 0)) 16 (omega (arith, x)), and-false (is_digit (get_or w i 0))) refl
-
-    pub both_right : hex_value (get_or w i 0) ≤ 15 → hex_value (get_or w (suc i) 0) ≤ 15 → is_hex (drop i w) ≡ is_hex (drop (suc (suc i)) w)
-    unfolding is_hex
-    both_right x y =
-        rw (two_left w i h, lt-ltb (hex_value (get_or w i 0)) 16 (omega (arith, x)), lt-ltb (hex_value (get_or w (suc i) 0)) 16 (omega (arith, y))) refl
-
-    -- .. and the other way round, where all are digits
+    -- where all are digits
     module _ (e : is_hex (drop i w) ≡ true) where
       here : ((is_digit (get_or w i 0) && is_digit (get_or w (suc i) 0)) && is_hex (drop (suc (suc i)) w)) ≡ true
       unfolding is_hex
@@ -93,8 +85,25 @@ module _ (w : List ℕ) (i : ℕ) where
     bytes_here = rw (two_left w i h) refl
 
   -- a digit is not the last letter
-  pub not_last : i < length w → is_hex (drop i w) ≡ true → length w - i ≡ 1 → ⊥
-  not_last h e o = false≢true (sym (odd o) ∙ e)
+  pub two : i < length w → is_hex (drop i w) ≡ true → suc i < length w
+  two h e = by_less (suc i) (length w) (λ l. l) (λ l. absurd (false≢true (sym (odd (omega (arith, h, l))) ∙ e)))
+
+-- the letters of a word are digits, and as many as two for each byte
+and_regroup : (a b c : Bool) → (a && (b && c)) ≡ ((a && b) && c)
+and_regroup true b c = refl
+and_regroup false b c = refl
+
+pub even_word : (w : List ℕ) → length w % 2 ≡ 0 → list_all is_digit w ≡ is_hex w
+unfolding is_hex
+even_word [] e = refl
+even_word (h ∷ []) e = absurd (omega (arith, e))
+even_word (h ∷ l ∷ w) e = rw (even_word w (omega (arith, e))) (and_regroup (is_digit h) (is_digit l) (is_hex w))
+
+pub odd_word : (w : List ℕ) → (length w % 2 ≡ 0 → ⊥) → false ≡ is_hex w
+unfolding is_hex
+odd_word [] e = absurd (e refl)
+odd_word (h ∷ []) e = refl
+odd_word (h ∷ l ∷ w) e = rw (← odd_word w (λ z. e (omega (arith, z)))) (sym (and-false (is_digit h && is_digit l)))
 
 pub two_each : (w : List ℕ) → is_hex w ≡ true → 2 * length (bytes_of w) ≡ length w
 unfolding is_hex bytes_of
@@ -137,6 +146,17 @@ module _ (w : List ℕ) (r : Class) (room room' : List ℕ) where
 
   pub gives_live : w ≡ live_word → Gives (class_field (live ∷ [])) r room room' → Gives (field_of w) r room room'
   gives_live e g = to _ (says_live ∙ sym (ap field_of e)) g
+
+not_in_hex : (is_hex drill_word ≡ false) × (is_hex live_word ≡ false)
+unfolding is_hex hex_value pick
+not_in_hex = (refl, refl)
+
+-- so a word in hexadecimal is neither
+pub hex_not_drill : (w : List ℕ) → is_hex w ≡ true → w ≡ drill_word → ⊥
+hex_not_drill w h e = false≢true (sym not_in_hex.0 ∙ sym (ap is_hex e) ∙ h)
+
+pub hex_not_live : (w : List ℕ) → is_hex w ≡ true → w ≡ live_word → ⊥
+hex_not_live w h e = false≢true (sym not_in_hex.1 ∙ sym (ap is_hex e) ∙ h)
 
 module _ (w : List ℕ) (d : w ≡ drill_word → ⊥) (l : w ≡ live_word → ⊥) where
   says_none : is_hex w ≡ false → no_class ≡ field_of w
@@ -181,13 +201,9 @@ read_back (b ∷ bs) h =
     let r = read_back bs (λ i. h (suc i)) in
     (rw (both_digits b (h 0)) r.0, ap₂ ◌∷◌ (the_byte b (h 0)) r.1)
 
-not_in_hex : (is_hex drill_word ≡ false) × (is_hex live_word ≡ false)
-unfolding is_hex hex_value pick
-not_in_hex = (refl, refl)
-
 pub asked_for : (bytes : List ℕ) → ((i : ℕ) → get_or bytes i 0 < 256) → field_of (hex_of bytes) ≡ class_field bytes
 asked_for bytes h =
     let r = read_back bytes h in
     sym
-    (says_bytes (hex_of bytes) (λ e. false≢true (sym not_in_hex.0 ∙ sym (ap is_hex e) ∙ r.0)) (λ e. false≢true (sym not_in_hex.1 ∙ sym (ap is_hex e) ∙ r.0)) r.0)
+    (says_bytes (hex_of bytes) (hex_not_drill _ r.0) (hex_not_live _ r.0) r.0)
     ∙ ap class_field r.1

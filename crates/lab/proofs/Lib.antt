@@ -1,5 +1,4 @@
 pub mod Digits
-pub mod Laying
 pub mod LookLines
 pub mod ClockDigits
 pub mod HexWords

@@ -5,7 +5,6 @@ use Rattle.ledger.specs.Choice.{pick}
 use Rattle.transcript.specs.Text.{Put}
 use Rattle.desk.specs.Sizes.{drill, live}
 use Rattle.desk.specs.Desks.{same}
-use Rattle.lab.specs.declared.classes.Class.{Class}
 
 -- ---- hexadecimal
 -- what a digit counts: `0` to `9`, `A` to `F`, `a` to `f`; any other byte is none, and counts 16
@@ -46,6 +45,11 @@ unfoldable pub field_of : List ℕ → Said
 field_of word =
     pick (same word drill_word) (class_field (drill ∷ []))
     (pick (same word live_word) (class_field (live ∷ [])) (pick (is_hex word) (class_field (bytes_of word)) no_class))
+
+-- whether a word is a class, and how many bytes its field has
+pub record Class : Type 0 where
+  pub good : Bool
+  pub len : ℕ
 
 -- what the code gives of it: the field's bytes at the start of a room; of a word that is none no byte, and the room as it was
 abbrev pub Gives : Said → Class → List ℕ → List ℕ → Type 0

@@ -2,7 +2,11 @@
 use Rattle.std.specs.Prelude.{ℕ, ◌^◌, Bool, true, false, ◌&&◌, List, ltb}
 use Rattle.ledger.specs.Choice.{pick}
 use Rattle.lab.specs.Numbers.{is_number, decimal}
-use Rattle.lab.specs.declared.clocks.Clock.{Clock}
+
+-- what a word says: whether it is a clock, and which
+pub record Clock : Type 0 where
+  pub good : Bool
+  pub value : ℕ
 
 -- decimal digits, at least one, and nothing else; zeros may stand in front; the number that they make is below 2^32
 unfoldable pub is_clock : List ℕ → Bool

@@ -3,4 +3,4 @@ pub mod Looks
 pub mod Status
 pub mod Clocks
 pub mod Classes
-pub mod Counts
+pub mod Given

@@ -4,8 +4,7 @@ use Rattle.ledger.specs.Choice.{pick}
 use Rattle.journal.specs.Reading.{read_at}
 use Rattle.journal.specs.Header.{version_of}
 use Rattle.journal.specs.Writing.{carried_by}
-use Rattle.journal.specs.declared.records.Found.{Found}
-use Rattle.journal.specs.declared.records.Found.TheVariants.{One, Stop, End}
+use Rattle.journal.specs.Found.{Found, One, Stop, End}
 use Rattle.listing.specs.Listing.{found_text, gone_text}
 
 -- the record that stands at a place; where none does, nothing

@@ -1,9 +1,9 @@
 // Files brought into memory.
-ghost use Rattle.std.specs.Prelude.{◌≤◌, length};
-ghost use Rattle.lab.specs.Counts.{IsPrefixLen};
+ghost use Rattle.std.specs.Prelude.{◌≤◌, length, IfOk};
 ghost use Rattle.std.specs.Io.{ReadsAtMost};
 
-use crate::messages::{StandardError, about, fail, is_told, name_too_long, no_name, opening};
+use crate::messages::{StandardError, Told, fail, no_name};
+use crate::names::Name;
 use journal::LARGEST;
 use std::io::Read;
 use std::rt::{Env, Files};
@@ -12,14 +12,8 @@ use std::{fs, io};
 // One byte more than the longest journal: a file that fills it is too large, and what else it has does not matter.
 pub const MOST: usize = LARGEST + 1;
 
-// How many bytes were read, and whether no read failed.
-#[derive(Drop)]
-pub struct Filled {
-    pub count: usize,
-    pub whole: bool,
-}
-
-// Reads until the room is full or the file ends. A pipe may give a file in small pieces.
+// Reads until the room is full or the file ends. A pipe may give a file in small pieces. A loop, since the library's reads want all of a room, or a
+// heap.
 fn fill(file: &mut impl Read, room: &mut [u8]) -> io::Result<usize>
     ensures { ReadsAtMost result room.new }
 {
@@ -36,83 +30,48 @@ fn fill(file: &mut impl Read, room: &mut [u8]) -> io::Result<usize>
 
 // A file's name as std takes it: text.
 pub fn path(name: &[u8]) -> io::Result<&str> {
-    match std::str::from_utf8(name) {
-        Ok(text) => Ok(text),
-        Err(_) => Err(io::Error::new(
+    std::str::from_utf8(name).map_err(|_| {
+        io::Error::new(
             io::ErrorKind::InvalidFilename,
             "a file's name that is not UTF-8",
-        )),
-    }
+        )
+    })
 }
 
 // The start of a file, as much of it as the room holds.
-fn read_start(rt: &impl Files, name: &[u8], room: &mut [u8]) -> io::Result<usize>
-    ensures { ReadsAtMost result room.new }
+fn read_start<'r>(rt: &impl Files, name: &[u8], room: &'r mut [u8]) -> io::Result<&'r [u8]>
+    ensures { IfOk result (λ text. length text.now ≤ length room.old) }
 {
     let mut file = fs::open(rt, path(name)?)?;
-    fill(&mut file, room)
+    let n = fill(&mut file, room)?;
+    Ok(&room[..n])
 }
 
-// The start of the file that a message is about, as much of it as the room holds. Where it cannot be opened or read, the message goes to
-// standard error, with the system's words for why.
-pub fn load(rt: &(impl Files + StandardError), said: &[u8], room: &mut [u8]) -> Filled
-    requires { 4 ≤ length said.now }
-    ensures { IsPrefixLen result.count room.new }
+// The start of the file that argument i names, as much of it as the room holds. Where it cannot be opened or read, that is told, with the
+// system's words for why.
+pub fn bring<'r>(
+    rt: &(impl Env + Files + StandardError),
+    i: usize,
+    room: &'r mut [u8],
+) -> Result<&'r [u8], Told>
+    ensures { IfOk result (λ text. length text.now ≤ length room.old) }
 {
-    match read_start(rt, &said[4..], room) {
-        Ok(count) => Filled {
-            count: count,
-            whole: true,
-        },
-        Err(why) => {
-            fail(rt, said, why);
-            Filled {
-                count: 0,
-                whole: false,
-            }
-        }
-    }
+    let name = Name::given(rt, i, b"")?;
+    read_start(rt, name.bytes(), room).map_err(|why| fail(rt, name.said(), why))
 }
 
-// The same of the file that an argument names. A name that is too long is told too.
-pub fn bring(rt: &(impl Env + Files + StandardError), i: usize, room: &mut [u8]) -> Filled
-    ensures { IsPrefixLen result.count room.new }
-{
-    let mut said = opening();
-    let n = about(rt, i, &mut said);
-    if !is_told(rt, i) {
-        name_too_long(rt);
-        return Filled {
-            count: 0,
-            whole: false,
-        };
-    }
-    load(rt, &said[..n], room)
+// The same; of a file that cannot be read there are no bytes, and nothing is said.
+pub fn glimpse<'r>(rt: &(impl Env + Files), i: usize, room: &'r mut [u8]) -> &'r [u8] {
+    let Some(name) = Name::find(rt, i, b"") else {
+        return &[];
+    };
+    read_start(rt, name.bytes(), room).unwrap_or(&[])
 }
 
-// As many bytes of the file that an argument names as a room holds; of one that cannot be read, none, and nothing is said.
-pub fn glimpse(rt: &(impl Env + Files), i: usize, room: &mut [u8]) -> usize
-    ensures { IsPrefixLen result room.new }
-{
-    let mut said = opening();
-    let n = about(rt, i, &mut said);
-    match read_start(rt, &said[4..n], room) {
-        Ok(count) => count,
-        Err(_) => 0,
+// Tells where argument i cannot be a file's name: where it is too long or empty.
+pub fn check_name(rt: &(impl Env + StandardError), i: usize) -> Result<(), Told> {
+    if Name::given(rt, i, b"")?.bytes().is_empty() {
+        return Err(no_name(rt));
     }
-}
-
-// Whether argument i can be a file's name. One that is too long or empty is told.
-pub fn is_name(rt: &(impl Env + StandardError), i: usize) -> bool {
-    let mut said = opening();
-    let n = about(rt, i, &mut said);
-    if !is_told(rt, i) {
-        name_too_long(rt);
-        return false;
-    }
-    if n == 4 {
-        no_name(rt);
-        return false;
-    }
-    true
+    Ok(())
 }

@@ -1,37 +1,46 @@
 // `nk look`: records of a journal by their numbers.
-ghost use Rattle.std.specs.Prelude.{◌≡◌, ◌+◌, ◌*◌, ◌^◌, ◌≤◌, ◌<◌, length};
+ghost use Rattle.std.specs.Prelude.{◌≡◌, ◌+◌, ◌-◌, ◌*◌, ◌≤◌, length};
 ghost use Rattle.journal.specs.Header.{version_of};
 ghost use Rattle.journal.specs.Reading.{read_at};
 ghost use Rattle.transcript.specs.Text.{Put};
+ghost use Rattle.transcript.specs.Writing.{Adds, AddsAtMost, HasRoom};
 ghost use Rattle.lab.specs.Looks.{record_text, look_line};
 
 use crate::appending::{INDEX_MOST, roomed};
 use crate::files::{MOST, bring};
-use crate::messages::{StandardError, no_number, wants};
+use crate::messages::{StandardError, Told, complain, no_number};
+use crate::names::word_at;
 use crate::numbers::{number, zeros_before};
-use crate::output::{Sent, lay, write};
-use crate::status::{FAILED, GOOD, ended, given};
+use crate::output::{Reader, write};
+use crate::status::{Status, ended};
 use index::{NUMBERS, look_filed};
-use journal::{Found, carried, header, payload, read};
+use journal::{header, payload, read};
+use ledger::refusals::DONE;
 use listing::{LONGEST_FOUND, found, gone};
+use std::ops::Range;
 use std::rt::{Env, Files};
+use transcript::text::Text;
 
 // The most letters of a word that is a number, and the longest line of one.
 const WORD: usize = 256;
 
 const LINE: usize = WORD + LONGEST_FOUND + 2 * 4096;
 
-// The record at a place, in the journal's version, with the bytes that it carries, as text.
-fn tell_record(j: &[u8], place: usize, room: &mut [u8], at: usize) -> usize
-    requires { at + (149 + 2 * 4096) ≤ length room.old }
-    ensures put { Put room.old room.new at (record_text j.now place (read_at (version_of j.now) j.now place)) result }
-    ensures upper_bound { result ≤ at + (149 + 2 * 4096) }
+// The journal's version: 0 where its header is not good.
+fn version(j: &[u8]) -> u32
+    ensures { result ≡ version_of j.now }
 {
-    let h = header(j);
-    match read(h.version, j, place) {
-        Found::One(it, next) => found(place, it, payload(j, next, carried(it)), room, at),
-        Found::Stop(_) => at,
-        Found::End => at,
+    header(j).map_or(0, |h| h.version)
+}
+
+// The record at a place, in the journal's version, with the bytes that it carries, as text.
+fn tell_record(j: &[u8], place: usize, text: &mut Text)
+    requires { HasRoom text.old (149 + 2 * 4096) }
+    ensures put { Adds text.old text.new (record_text j.now place (read_at (version_of j.now) j.now place)) }
+    ensures upper_bound { AddsAtMost text.old text.new (149 + 2 * 4096) }
+{
+    if let Ok(Some((it, next))) = read(version(j), j, place) {
+        found(place, it, payload(j, next, it.carried()), text);
     }
 }
 
@@ -41,11 +50,14 @@ fn tell_line(j: &[u8], name: &[u8], answer: u32, place: u32, room: &mut [u8]) ->
     ensures put { Put room.old room.new 0 (look_line j.now name.now answer place) result }
     ensures upper_bound { (result ≤ 8597) × (length room.new ≡ 8597) }
 {
-    let at = lay(name, name.len(), room, 0);
-    if answer == 0 {
-        return tell_record(j, place as usize, room, at);
+    let mut text = Text::new(room);
+    text.letters(name);
+    if answer == DONE {
+        tell_record(j, place as usize, &mut text);
+    } else {
+        gone(&mut text);
     }
-    gone(room, at)
+    text.len()
 }
 
 // The line of the number that argument i is, written.
@@ -55,143 +67,91 @@ fn tell_one(
     i: usize,
     answer: u32,
     place: u32,
-) -> Sent {
-    let mut word = [0u8; WORD];
-    let n = rt.arg(i, &mut word).unwrap_or(0);
-    let z = zeros_before(&word[..n]);
+) -> Result<Reader, Told> {
+    let mut letters = [0u8; WORD];
+    let word = word_at(rt, i, &mut letters).unwrap_or(&[]);
+    let name = &word[zeros_before(word)..];
     let mut room = [0u8; LINE];
-    let m = tell_line(j, &word[z..n], answer, place, &mut room);
-    write(rt, &room[..m])
+    let n = tell_line(j, name, answer, place, &mut room);
+    write(rt, &room[..n])
 }
 
-// The lines of `count` numbers, the first of which is argument `first`, and the last line.
+// The lines of the numbers that some words are, and the last line. Answers and places are two arrays, as C's call has them.
 fn tell_all(
     rt: &(impl Env + Print + StandardError),
     j: &[u8],
-    first: usize,
-    count: usize,
+    words: Range<usize>,
     answers: &[u32; NUMBERS],
     places: &[u32; NUMBERS],
-) -> u32
-    requires { (count ≤ 64) × (first + count < 2 ^ 64) }
+) -> Result<Status, Told>
+    requires { words.end - words.start ≤ 64 }
 {
-    let mut i: usize = 0;
-    while i < count {
-        match tell_one(rt, j, first + i, answers[i], places[i]) {
-            Sent::All => {
-                i += 1;
-            }
-            Sent::NoReader => {
-                return GOOD;
-            }
-            Sent::Failed => {
-                return FAILED;
-            }
+    for (i, (answer, place)) in words.zip(answers.iter().zip(places)) {
+        if tell_one(rt, j, i, *answer, *place)? == Reader::Gone {
+            return Ok(Status::Good);
         }
     }
-    ended(rt, 0)
+    ended(rt, DONE)
 }
 
 // One more number than a call takes: that there is one is enough to be refused.
 const SOME: usize = NUMBERS + 1;
 
-// A number kept at its place, where the room has that place.
-fn keep(value: u32, at: usize, numbers: &mut [u32])
-    ensures { length numbers.new ≡ length numbers.old }
-{
-    if at < numbers.len() {
-        numbers[at] = value;
-    }
-}
-
-// Reads the numbers that the arguments from one on are, the first 65 of them into a room. A word that is no number is told, and then it is
-// none of them.
-fn gather(rt: &(impl Env + StandardError), first: usize, count: usize, numbers: &mut [u32]) -> bool
-    requires { length numbers.old ≡ 65 }
-    ensures { length numbers.new ≡ 65 }
-{
-    let mut i: usize = first;
-    while i < count {
-        let mut word = [0u8; WORD];
-        let n = rt.arg(i, &mut word).unwrap_or(0);
-        let it = number(&word[..n]);
-        if !it.good {
-            no_number(rt, &word[..n]);
-            return false;
+// Reads the numbers that some words are, the first 65 of them into a room. A word that is no number is told, and then it is none of them.
+fn gather(
+    rt: &(impl Env + StandardError),
+    words: Range<usize>,
+    numbers: &mut [u32; SOME],
+) -> Result<(), Told> {
+    for (at, i) in words.enumerate() {
+        let mut letters = [0u8; WORD];
+        let word = word_at(rt, i, &mut letters).unwrap_or(&[]);
+        let value = number(word).ok_or_else(|| no_number(rt, word))?;
+        if at < SOME {
+            numbers[at] = value;
         }
-        keep(it.value, i - first, numbers);
-        i += 1;
     }
-    true
-}
-
-fn at_most(n: usize) -> usize
-    ensures { (result ≤ n) × (result ≤ 65) }
-{
-    if n < SOME { n } else { SOME }
+    Ok(())
 }
 
 fn look_up(
     rt: &(impl Env + Print + StandardError),
-    first: usize,
     j: &[u8],
     file: &[u8],
+    words: Range<usize>,
     numbers: &[u32],
-) -> u32
-    requires { first + length numbers.now < 2 ^ 64 }
+) -> Result<Status, Told>
+    requires { words.end - words.start ≡ length numbers.now }
 {
     let room = roomed(j);
     let mut answers = [0u32; NUMBERS];
     let mut places = [0u32; NUMBERS];
     let refused = look_filed(&room, j.len(), file, numbers, &mut answers, &mut places);
-    if refused != 0 {
+    if refused != DONE {
         return ended(rt, refused);
     }
-    tell_all(rt, j, first, numbers.len(), &answers, &places)
+    tell_all(rt, j, words, &answers, &places)
 }
 
-fn look_in(
+pub fn look(
     rt: &(impl Env + Files + Print + StandardError),
-    first: usize,
-    j: &[u8],
-    numbers: &[u32],
-) -> u32
-    requires { first + 2 + length numbers.now < 2 ^ 64 }
-{
-    let mut room = [0u8; INDEX_MOST];
-    let f = bring(rt, first + 1, &mut room);
-    if !f.whole {
-        return FAILED;
-    }
-    let n = f.count;
-    look_up(rt, first + 2, j, &room[..n], numbers)
-}
-
-fn look_for(rt: &(impl Env + Files + Print + StandardError), first: usize, numbers: &[u32]) -> u32
-    requires { first + 2 + length numbers.now < 2 ^ 64 }
-{
-    let mut room = [0u8; MOST];
-    let f = bring(rt, first, &mut room);
-    if !f.whole {
-        return FAILED;
-    }
-    let n = f.count;
-    look_in(rt, first, &room[..n], numbers)
-}
-
-pub fn look(rt: &(impl Env + Files + Print + StandardError), first: usize, count: usize) -> u32 {
-    let many = given(first, count);
-    if many < 3 {
-        wants(
+    words: Range<usize>,
+) -> Result<Status, Told> {
+    if words.len() < 3 {
+        return Err(complain(
             rt,
-            b"nk: look wants a journal, its index and record numbers; nk --help says what there is\n",
-        );
-        return FAILED;
+            &[
+                b"nk: look wants a journal, its index and record numbers; nk --help says what there is\n",
+            ],
+        ));
     }
+    let first = words.start;
     let mut numbers = [0u32; SOME];
-    if !gather(rt, first + 2, count, &mut numbers) {
-        return FAILED;
-    }
-    let n = at_most(many - 2);
-    look_for(rt, first, &numbers[..n])
+    gather(rt, first + 2..words.end, &mut numbers)?;
+    let mut journal = [0u8; MOST];
+    let j = bring(rt, first, &mut journal)?;
+    let mut index = [0u8; INDEX_MOST];
+    let file = bring(rt, first + 1, &mut index)?;
+    let n = (words.len() - 2).min(SOME);
+    look_up(rt, j, file, first + 2..first + 2 + n, &numbers[..n])
 }

@@ -1,75 +1,59 @@
 // Record numbers as a person writes them: decimal digits, as many as there are.
-ghost use Rattle.std.specs.Prelude.{◌≡◌, true, [], ◌∷◌, ◌≤◌, ◌<◌, length};
-ghost use Rattle.lab.specs.Numbers.{is_number, onward, zeros_before};
+ghost use Rattle.std.specs.Prelude.{◌≡◌, [], ◌∷◌, ◌+◌, ◌-◌, ◌≤◌, ◌<◌, Some, None, length, ◌==◌, is_some, take_while, IfSome};
+ghost use Rattle.ledger.specs.Choice.{pick};
+ghost use Rattle.lab.specs.Numbers.{digit, is_number, onward, zeros_before};
 
-// What a word says: whether it is a number, and which. From 100,000 on all are alike: no journal has so many records.
-#[derive(Drop)]
-pub struct Asked {
-    pub good: bool,
-    pub value: u32,
-}
-
+// From here on all numbers are alike: no journal has so many records.
 const ENOUGH: u32 = 100000;
 
-// One digit more.
-fn longer(value: u32, b: u8) -> u32
-    requires { (48 ≤ b) × ((b ≤ 57) × (value < 1000000)) }
-    ensures { (result ≡ onward value (b ∷ [])) × (result < 1000000) }
+// What a decimal digit counts.
+pub fn count(b: u8) -> Option<u32>
+    ensures { result ≡ pick (digit b) (Some (b - 48)) None }
 {
-    if value < ENOUGH {
-        return value * 10 + (b - b'0') as u32;
+    match b {
+        b'0'..=b'9' => Some(u32::from(b - b'0')),
+        _ => None,
     }
-    value
 }
 
-// A word read as a number.
-pub fn number(word: &[u8]) -> Asked
-    ensures { (result.good ≡ is_number word.now) × (result.good ≡ true → result.value ≡ onward 0 word.now) }
+// One digit more.
+fn longer(value: u32, digit: u32) -> u32
+    requires { (digit < 10) × (value < 1000000) }
+    ensures { (result ≡ onward value ((digit + 48) ∷ [])) × (result < 1000000) }
 {
-    if word.len() == 0 {
-        return Asked {
-            good: false,
-            value: 0,
-        };
+    if value < ENOUGH {
+        value * 10 + digit
+    } else {
+        value
     }
-    let mut value: u32 = 0;
-    let mut i: usize = 0;
-    while i < word.len() {
-        let b = word[i];
-        if b < b'0' {
-            return Asked {
-                good: false,
-                value: 0,
-            };
-        }
-        if b > b'9' {
-            return Asked {
-                good: false,
-                value: 0,
-            };
-        }
-        value = longer(value, b);
-        i += 1;
+}
+
+// The number that a word says; none where it says none.
+pub fn number(word: &[u8]) -> Option<u32>
+    ensures is_one { is_some result ≡ is_number word.now }
+    ensures which { IfSome result (λ value. value ≡ onward 0 word.now) }
+{
+    if word.is_empty() {
+        return None;
     }
-    Asked {
-        good: true,
-        value: value,
+    let mut value = 0;
+    for b in word {
+        let digit = count(*b)?;
+        value = longer(value, digit);
     }
+    Some(value)
+}
+
+// How many zeros a word begins with.
+fn zeros(word: &[u8]) -> usize
+    ensures { result ≡ length (take_while (λ b. b == 48) word.now) }
+{
+    word.iter().take_while(|b| **b == b'0').count()
 }
 
 // How many zeros stand before a number that does not need them.
 pub fn zeros_before(word: &[u8]) -> usize
     ensures { (result ≡ zeros_before word.now) × (result ≤ length word.now) }
 {
-    let mut i: usize = 0;
-    while i < word.len() {
-        if word.len() - i == 1 {
-            return i;
-        }
-        if word[i] != b'0' {
-            return i;
-        }
-        i += 1;
-    }
-    i
+    zeros(word).min(word.len().saturating_sub(1))
 }

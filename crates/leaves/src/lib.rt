@@ -20,8 +20,5 @@ pub extern "C" fn leaf_chacha(state: &[u32; 16], out: &mut [u8])
 pub extern "C" fn leaf_sha1(hash: &mut [u32; 5], message: &[u32; 16])
     ensures { hash.new ≡ compressed hash.old message.now }
 {
-    let h = *hash;
-    let m = *message;
-    let r = secure_hash::compress(h, m);
-    *hash = r;
+    *hash = secure_hash::compress(*hash, *message);
 }

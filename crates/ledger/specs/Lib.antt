@@ -8,9 +8,11 @@ pub mod Clocks
 pub mod Timers
 pub mod Marks
 pub mod Range
+pub mod Refusals
 pub mod PublicCalls
 pub mod Streams
 pub mod Plans
+pub mod Planned
 pub mod Machine
 pub mod Earned
 pub mod Worth

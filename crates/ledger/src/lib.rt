@@ -4,16 +4,19 @@
 //
 // Here are the structs, specs/ with the customer's rules, a file for each of the paper's sections (Numbers, Shapes, Places, Credits,
 // Clocks, Range; then PublicCalls and Plans, by which a call is decided, and Machine, which is the whole keeper as far as it can be
-// seen), and proofs/ with what follows from these alone: crediting, debiting, "in range stays in range", blocking, the marked cases.
+// seen; Refusals and Planned tell the code's own types by them), and proofs/ with what follows from these alone: crediting, debiting, "in
+// range stays in range", blocking, the marked cases.
 // The code is in `reckon` (counts, clocks, the range test) and `decide` (the plans of the calls).
 #![tactic(auto)]
 
-pub mod numbers;
+pub mod refusals;
 pub mod sizes;
+
+pub use refusals::Refusal;
 
 // Where a pool's next byte goes: its position and its rotation.
 #[repr(C)]
-#[derive(Clone, Copy)]
+#[derive(Clone, Copy, Default)]
 pub struct Spot {
     pub at: u32,
     pub turn: u32,
@@ -21,7 +24,7 @@ pub struct Spot {
 
 // What is public of a pool: its count, in eighths of a bit, and where its next byte goes.
 #[repr(C)]
-#[derive(Clone, Copy)]
+#[derive(Clone, Copy, Default)]
 pub struct Gauge {
     pub count: u32,
     pub spot: Spot,
@@ -29,7 +32,7 @@ pub struct Gauge {
 
 // Interrupts since the last spill, and the clock of that spill.
 #[repr(C)]
-#[derive(Clone, Copy)]
+#[derive(Clone, Copy, Default)]
 pub struct Spill {
     pub tally: u32,
     pub clock: u32,
@@ -38,15 +41,16 @@ pub struct Spill {
 // A mark of 1: seeded for good. Any other number is read as unseeded: a mark that is damaged must not open the generator. And the clock
 // of the last seeding.
 #[repr(C)]
-#[derive(Clone, Copy)]
+#[derive(Clone, Copy, Default)]
 pub struct Seeding {
     pub mark: u32,
     pub clock: u32,
 }
 
-// The public half of the record, but for the timers: the two pools', device 0's last value, the fast pool's and the generator's.
+// The public half of the record, but for the timers: the two pools', device 0's last value, the fast pool's and the generator's. C lends it
+// with any numbers in it, so that it is in range is a fact of contracts and none of the type.
 #[repr(C)]
-#[derive(Clone, Copy)]
+#[derive(Clone, Copy, Default)]
 pub struct Ledger {
     pub input: Gauge,
     pub blocking: Gauge,
@@ -56,8 +60,8 @@ pub struct Ledger {
 }
 
 // A device's timer: its last clock, the first and second difference of its last event, and how many of its events were kept so far, up to
-// three.
-#[derive(Clone, Copy)]
+// three. It is read from what C lends, with any numbers in it too.
+#[derive(Clone, Copy, Default)]
 pub struct Timer {
     pub clock: u32,
     pub d1: i64,
@@ -72,10 +76,10 @@ pub struct Credited {
     pub added: u32,
 }
 
-// What a call will do.
-#[derive(Clone, Copy)]
+// What a call will do. Its fields are those that the rules of specs/ name, a timer and whether it is kept for one.
+#[derive(Clone, Copy, Default)]
 pub struct Plan {
-    // the number given back
+    // the number given back: done, wherever code makes a plan; what is refused has none, and the rules' idle plan tells its number
     pub number: u32,
     // the ledger afterwards, but for the two spots, which follow from the bytes that are mixed
     pub ledger: Ledger,
@@ -98,7 +102,7 @@ pub struct Plan {
 // The number given back, the bytes delivered, the work of the call: ChaCha20 blocks and SHA-1 compressions; and what its credit was worth:
 // the units that were added to a count, before any debit.
 #[repr(C)]
-#[derive(Clone, Copy)]
+#[derive(Clone, Copy, Default)]
 pub struct Answer {
     pub number: u32,
     pub delivered: u32,

@@ -1,10 +1,10 @@
 // The calls, as the terminal makes them: each over the record that it lends by `&mut`, under the name that it links.
 //
-// A front copies the ledger out, lends the arrays in place to a function of `steps`, stores the new ledger and hands on the answer.
-// It decides nothing. Every refusal is in the step, so a front has no branch, and nothing is asked of the record or of a number.
+// A front lends the record on to a function of `steps` or of `issuing`, and hands on its answer. It decides nothing. Every refusal is in the
+// step, so a front has no branch, and nothing is asked of the record or of a number.
 //
 // The contract of each is one equation for all inputs: the record, the answer and the output room, as the call has left them, are
-// what specs/Promise.antt of `steps` says that the call leaves. The proofs are printed by fronts/print.
+// what specs/Promise.antt of `steps` says that the call leaves. It is the step's own, so no proof stands here.
 #![tactic(auto)]
 
 ghost use Rattle.std.specs.Prelude.{◌≡◌, [], length};
@@ -23,22 +23,7 @@ use steps::{blocking_read_on, event_on, interrupt_on, make_on, read_on, seed_on,
 pub extern "C" fn nk_make(k: &mut Keeper, start: &[u8]) -> Answer
     ensures { left k.new result [] ≡ leaves_made k.old start.now }
 {
-    let l = k.ledger;
-    let d = make_on(
-        l,
-        &mut k.clocks,
-        &mut k.firsts,
-        &mut k.seconds,
-        &mut k.came,
-        &mut k.input,
-        &mut k.blocking,
-        &mut k.fast,
-        &mut k.generator,
-        start,
-    );
-    let n = d.ledger;
-    k.ledger = n;
-    d.answer
+    make_on(k, start)
 }
 
 // A device event.
@@ -46,23 +31,7 @@ pub extern "C" fn nk_make(k: &mut Keeper, start: &[u8]) -> Answer
 pub extern "C" fn nk_event(k: &mut Keeper, device: u32, at: u32, stamp: u64, value: u32) -> Answer
     ensures { left k.new result [] ≡ leaves k.old (device_event device at stamp value) [] }
 {
-    let l = k.ledger;
-    let d = event_on(
-        l,
-        &mut k.clocks,
-        &mut k.firsts,
-        &mut k.seconds,
-        &mut k.came,
-        &mut k.input,
-        &mut k.generator,
-        device,
-        at,
-        stamp,
-        value,
-    );
-    let n = d.ledger;
-    k.ledger = n;
-    d.answer
+    event_on(k, device, at, stamp, value)
 }
 
 // An interrupt.
@@ -76,23 +45,7 @@ pub extern "C" fn nk_interrupt(
 ) -> Answer
     ensures { left k.new result [] ≡ leaves k.old (interrupted at number stamp address) [] }
 {
-    let l = k.ledger;
-    let d = interrupt_on(
-        l,
-        &k.firsts,
-        &k.seconds,
-        &k.came,
-        &mut k.input,
-        &mut k.fast,
-        &mut k.generator,
-        at,
-        number,
-        stamp,
-        address,
-    );
-    let n = d.ledger;
-    k.ledger = n;
-    d.answer
+    interrupt_on(k, at, number, stamp, address)
 }
 
 // A write.
@@ -100,19 +53,7 @@ pub extern "C" fn nk_interrupt(
 pub extern "C" fn nk_write(k: &mut Keeper, bytes: &[u8]) -> Answer
     ensures { left k.new result [] ≡ leaves k.old (written bytes.now) [] }
 {
-    let l = k.ledger;
-    let d = write_on(
-        l,
-        &k.firsts,
-        &k.seconds,
-        &k.came,
-        &mut k.input,
-        &k.generator,
-        bytes,
-    );
-    let n = d.ledger;
-    k.ledger = n;
-    d.answer
+    write_on(k, bytes)
 }
 
 // A seed.
@@ -120,21 +61,7 @@ pub extern "C" fn nk_write(k: &mut Keeper, bytes: &[u8]) -> Answer
 pub extern "C" fn nk_seed(k: &mut Keeper, at: u32, bytes: &[u8], credit: u32) -> Answer
     ensures { left k.new result [] ≡ leaves k.old (seeded_with at bytes.now credit) [] }
 {
-    let l = k.ledger;
-    let d = seed_on(
-        l,
-        &k.firsts,
-        &k.seconds,
-        &k.came,
-        &mut k.input,
-        &mut k.generator,
-        at,
-        bytes,
-        credit,
-    );
-    let n = d.ledger;
-    k.ledger = n;
-    d.answer
+    seed_on(k, at, bytes, credit)
 }
 
 // A generator read. The output room's length is the read's.
@@ -142,20 +69,7 @@ pub extern "C" fn nk_seed(k: &mut Keeper, at: u32, bytes: &[u8], credit: u32) ->
 pub extern "C" fn nk_read(k: &mut Keeper, at: u32, out: &mut [u8]) -> Answer
     ensures { left k.new result out.new ≡ leaves k.old (generator_read at (length out.old)) out.old }
 {
-    let l = k.ledger;
-    let d = read_on(
-        l,
-        &k.firsts,
-        &k.seconds,
-        &k.came,
-        &mut k.input,
-        &mut k.generator,
-        at,
-        out,
-    );
-    let n = d.ledger;
-    k.ledger = n;
-    d.answer
+    read_on(k, at, out)
 }
 
 // A blocking read.
@@ -163,20 +77,7 @@ pub extern "C" fn nk_read(k: &mut Keeper, at: u32, out: &mut [u8]) -> Answer
 pub extern "C" fn nk_blocking_read(k: &mut Keeper, out: &mut [u8]) -> Answer
     ensures { left k.new result out.new ≡ leaves k.old (blocking_read_of (length out.old)) out.old }
 {
-    let l = k.ledger;
-    let d = blocking_read_on(
-        l,
-        &k.firsts,
-        &k.seconds,
-        &k.came,
-        &mut k.input,
-        &mut k.blocking,
-        &k.generator,
-        out,
-    );
-    let n = d.ledger;
-    k.ledger = n;
-    d.answer
+    blocking_read_on(k, out)
 }
 
 // A message number of the desk, which is a record of its own.
@@ -184,23 +85,5 @@ pub extern "C" fn nk_blocking_read(k: &mut Keeper, out: &mut [u8]) -> Answer
 pub extern "C" fn nk_issue(k: &mut Keeper, desk: &mut Desk, at: u32, field: &[u8]) -> Issued
     ensures { left_with k.new desk.new result ≡ issue k.old desk.old at field.now }
 {
-    let l = k.ledger;
-    let c = desk.count;
-    let d = issue_on(
-        l,
-        &k.firsts,
-        &k.seconds,
-        &k.came,
-        &mut k.input,
-        &mut k.generator,
-        c,
-        &mut desk.numbers,
-        at,
-        field,
-    );
-    let n = d.ledger;
-    k.ledger = n;
-    let m = d.count;
-    desk.count = m;
-    d.issued
+    issue_on(k, desk, at, field)
 }

@@ -1,3 +1,2 @@
-pub mod Further
-pub mod Texts
 pub mod Vectors
+pub mod Texts

@@ -5,11 +5,11 @@
 // a space before it, and a newline. The sums are three lines: `records` and how many there are, `kinds` and how many there are of each of
 // the six, `reads` and the sum of the lengths that reads ask for.
 //
-// Each contract names one text of specs/Listing.antt, for all numbers, records and bytes: it stands in the room from a place on, all other
-// bytes stay, and the answer is the place after it. What is asked is a room that any text of the kind fits: `LONGEST_FOUND` and two more for
-// each byte, `LONGEST_GONE`, `LONGEST_SUMS`.
+// Each contract names one piece of text of specs/Listing.antt, for all numbers, records and bytes: it is added to a text, behind what is there,
+// and all other bytes of the room stay. What is asked is that the room still holds any piece of the kind: `LONGEST_FOUND` and two more for each
+// byte, `LONGEST_GONE`, `LONGEST_SUMS`.
 //
-// `row` has numbers with a space before each, `named` a line that begins with a name; `looked` and `totals` have the texts.
+// `row` has numbers with a space before each, `named` a line that begins with a name; `looked` and `totals` have the pieces.
 #![tactic(auto)]
 
 pub mod looked;

@@ -1,73 +1,30 @@
 // The sums of an index: how many records there are, how many of each kind, and the lengths that reads ask for.
-ghost use Rattle.std.specs.Prelude.{◌≡◌, [], ◌∷◌, ◌+◌, ◌≤◌, length};
+ghost use Rattle.std.specs.Prelude.{◌≡◌, ◌<◌, ◌^◌, length};
 ghost use Rattle.journal.specs.Layout.{sum};
-ghost use Rattle.transcript.specs.Text.{Put};
+ghost use Rattle.transcript.specs.Writing.{Adds, AddsAtMost, HasRoom};
 ghost use Rattle.listing.specs.Listing.{sums_text, longest_sums};
 
 use crate::named::line;
+use transcript::text::Text;
 
 // No three lines are longer. `specs/Listing.antt` names it too.
 pub const LONGEST_SUMS: usize = 188;
 
-// How many records there are of all kinds. Six counts can add up to more than a u32 holds.
-fn records(
-    events: u32,
-    interrupts: u32,
-    writes: u32,
-    seeds: u32,
-    reads: u32,
-    blocking_reads: u32,
-) -> u64
-    ensures { result ≡ sum (events ∷ interrupts ∷ writes ∷ seeds ∷ reads ∷ blocking_reads ∷ []) }
+// How many records there are of all kinds. Six counts can add up to more than a u32 holds. `index` has the same chain: this crate does not stand on it.
+fn records(kinds: &[u32]) -> u64
+    requires { length kinds.now < 2 ^ 32 }
+    ensures { result ≡ sum kinds.now }
 {
-    events as u64
-        + interrupts as u64
-        + writes as u64
-        + seeds as u64
-        + reads as u64
-        + blocking_reads as u64
+    kinds.iter().map(|&n| u64::from(n)).sum()
 }
 
-// The three lines, with the counts one by one, so that each can go into the longer type that `row` takes.
-fn lines(
-    events: u32,
-    interrupts: u32,
-    writes: u32,
-    seeds: u32,
-    reads: u32,
-    blocking_reads: u32,
-    asked: u32,
-    room: &mut [u8],
-    at: usize,
-) -> usize
-    requires { at + longest_sums ≤ length room.old }
-    ensures put { Put room.old room.new at (sums_text (events ∷ interrupts ∷ writes ∷ seeds ∷ reads ∷ blocking_reads ∷ []) asked) result }
-    ensures upper_bound { result ≤ at + longest_sums }
+// The three lines.
+pub fn sums(kinds: &[u32; 6], reads: u32, text: &mut Text)
+    requires { HasRoom text.old longest_sums }
+    ensures put { Adds text.old text.new (sums_text kinds.now reads) }
+    ensures upper_bound { AddsAtMost text.old text.new longest_sums }
 {
-    let all = records(events, interrupts, writes, seeds, reads, blocking_reads);
-    let second = line(b"records", &[all], room, at);
-    let third = line(
-        b"kinds",
-        &[
-            events as u64,
-            interrupts as u64,
-            writes as u64,
-            seeds as u64,
-            reads as u64,
-            blocking_reads as u64,
-        ],
-        room,
-        second,
-    );
-    line(b"reads", &[asked as u64], room, third)
-}
-
-// The three lines, with the counts as an index has them.
-pub fn sums(kinds: &[u32; 6], reads: u32, room: &mut [u8], at: usize) -> usize
-    requires { at + longest_sums ≤ length room.old }
-    ensures put { Put room.old room.new at (sums_text kinds.now reads) result }
-    ensures upper_bound { result ≤ at + longest_sums }
-{
-    let of = &kinds[..];
-    lines(of[0], of[1], of[2], of[3], of[4], of[5], reads, room, at)
+    line(b"records", &[records(kinds)], text);
+    line(b"kinds", &kinds.map(u64::from), text);
+    line(b"reads", &[reads as u64], text);
 }

@@ -1,16 +1,17 @@
 -- What the proofs of extracting cite: a block of the message, the hash of a pool, hashes as bytes, one block more in the room.
-use mathlib.Core.Path.{◌≡◌, sym, ap, ◌∙◌}
+use mathlib.Core.Path.{◌≡◌, refl, sym, ap, ◌∙◌}
 use mathlib.Core.Logic.{⊎_elim}
 use mathlib.Core.List.{List, [], ◌∷◌, ◌++◌, map, map-append, append_assoc, append-nil}
 use Prim.Native.Nat.{ℕ, zero, suc, ◌+◌, ◌-◌, ◌/◌, ◌%◌, ◌≤◌, ◌<◌, min}
 use native.Mathlib.Numerals.{add-one}
 use native.Mathlib.Omega.{arith}
+use borrow.Rule.Slice.PartMut.{put_mid}
 use lib.Bits.{bit_xor}
 use lib.ListN.{length, get_or, set, take, drop, length-append, length-drop}
 use lib.Seq.{sets, length-sets, sets-eq, take_all, take-nil, take_at, take-suc, take-suc-set, drop-drop, get_or-drop, length-take-le}
 use Rattle.words.specs.Words.{rotl}
 use Rattle.words.specs.Bytes.{le_bytes, swapped, words_bytes}
-use Rattle.secure_hash.specs.Sha1.{initial_hash, compressed}
+use Rattle.secure_hash.specs.Sha1.{compressed}
 use Rattle.ledger.specs.Choice.{pick}
 use Rattle.ledger.specs.Shapes.{Shape, rounds}
 use Rattle.ledger.specs.Places.{blocks_of}
@@ -42,19 +43,19 @@ pub in_blocks : (n : ℕ) → Size n → n % 16 ≡ 0
 in_blocks n z = ⊎_elim (λ e. rw e) (λ e. rw e) z.one_of
 
 -- one more compression
-pub hash_more : (ws h g r : List ℕ) (k : ℕ) → k < length ws → length ws % 16 ≡ 0 → k % 16 ≡ 0
+pub hash_more : (n : ℕ) (ws h g r : List ℕ) (k : ℕ) → k < n → n % 16 ≡ 0 → k % 16 ≡ 0
     → g ≡ compressed h (map swapped (take 16 (drop k ws)))
-    → (hashed ((length ws - k) / 16) h (drop k ws)).words ≡ r → (hashed ((length ws - (k + 16)) / 16) g (drop (k + 16) ws)).words ≡ r
+    → (hashed ((n - k) / 16) h (drop k ws)).words ≡ r → (hashed ((n - (k + 16)) / 16) g (drop (k + 16) ws)).words ≡ r
 unfolding hashed
-hash_more ws h g r k lt l m e i =
-    let s : (length ws - k) / 16 ≡ suc ((length ws - (k + 16)) / 16) = omega arith in
+hash_more n ws h g r k lt l m e i =
+    let s : (n - k) / 16 ≡ suc ((n - (k + 16)) / 16) = omega arith in
     rw (e, ← drop-drop 16 k ws) (rw s at i)
 
 -- none is left
-pub hash_done : (ws h r : List ℕ) (k : ℕ) → length ws ≤ k → (hashed ((length ws - k) / 16) h (drop k ws)).words ≡ r → h ≡ r
+pub hash_done : (n : ℕ) (ws h r : List ℕ) (k : ℕ) → n ≤ k → (hashed ((n - k) / 16) h (drop k ws)).words ≡ r → h ≡ r
 unfolding hashed
-hash_done ws h r k le i =
-    let z : (length ws - k) / 16 ≡ 0 = omega arith in
+hash_done n ws h r k le i =
+    let z : (n - k) / 16 ≡ 0 = omega arith in
     rw z at i
 
 -- ---- hashes as bytes
@@ -89,6 +90,22 @@ laid out v k h =
     let l : length (take k out ++ v) ≡ k + length v = omega (arith, length-append (take k out) v, length-take-le k out (omega arith)) in
     rw (sets-eq v out k h) (take_at (take k out ++ v) _ _ l)
 
+-- a front that is the whole of a list is so however far past its end it is asked for
+front_all : (l : List ℕ) (n m : ℕ) → n ≤ m → min m (length l) ≤ n → take m l ≡ take n l
+front_all [] n m h k = take-nil m ∙ sym (take-nil n)
+front_all (x ∷ l) zero zero h k = refl
+front_all (x ∷ l) zero (suc m) h k = absurd (omega arith)
+front_all (x ∷ l) (suc n) zero h k = absurd (omega arith)
+front_all (x ∷ l) (suc n) (suc m) h k = ap (λ (t : List ℕ). x ∷ t) (front_all l n m (omega arith) (omega arith))
+
+-- a part of a room that is written over
+pub laid_part : (out v : List ℕ) (k e : ℕ) → k + length v ≤ length out → e ≡ length v → put_mid k e out v ≡ sets out k v
+laid_part out v k e h q =
+    rw q
+    (ap (λ (t : List ℕ). take k out ++ (v ++ t)) (drop-drop (length v) k out)
+    ∙ sym (append_assoc (take k out) v (drop (k + length v) out))
+    ∙ sym (sets-eq v out k h))
+
 -- what is left of an extraction into a room of which k bytes are filled gives the whole
 pub record Left (sh : Shape) (p : Pool) (out : List ℕ) (k : ℕ) (whole : Extract) : Type 0 where
   pub pool_left : (extract sh (length out - k) p).pool ≡ whole.pool
@@ -121,34 +138,32 @@ bytes_front : (sh : Shape) (p : Pool) (m : ℕ) → 0 < m
 bytes_front sh p m h =
     rw (bytes_more sh p m h, take-front m (folded (pool_hash sh p).words) _, folded-length (pool_hash sh p).words)
 
--- one more block is laid into the room
-left_more : (sh : Shape) (p q : Pool) (out into b : List ℕ) (k next : ℕ) (whole : Extract) → k < length out
+-- one more block is laid into the room; the last one is shorter, and nothing is left after it
+pub left_more : (sh : Shape) (p q : Pool) (out into b : List ℕ) (k : ℕ) (whole : Extract) → k < length out
     → b ≡ folded (pool_hash sh p).words → q ≡ mix sh p (words_bytes (pool_hash sh p).words)
-    → into ≡ sets out k (take (min 10 (length out - k)) b) → next ≡ k + min 10 (length out - k)
-    → Left sh p out k whole → Left sh q into next whole
-left_more sh p q out into b k next whole h eb eq ei en i =
+    → into ≡ sets out k (take (min 10 (length out - k)) b)
+    → Left sh p out k whole → Left sh q into (k + 10) whole
+left_more sh p q out into b k whole h eb eq ei i =
     let n : ℕ = min 10 (length out - k) in
     let v : List ℕ = take n b in
     let lb : length b ≡ 10 = ap length eb ∙ folded-length (pool_hash sh p).words in
     let lv : length v ≡ n = length-take-le n b (omega arith) in
     let li : length into ≡ length out = ap length ei ∙ length-sets out k v in
-    let m : length into - next ≡ length out - k - 10 = omega arith in
-    let t : take next into ≡ take k out ++ v = rw (en, ei) (rw lv at (laid out v k (omega arith))) in
+    let m : length into - (k + 10) ≡ length out - k - 10 = omega arith in
+    let f : take (k + n) into ≡ take k out ++ v = rw ei (rw lv at (laid out v k (omega arith))) in
+    let t : take (k + 10) into ≡ take k out ++ v = front_all into (k + n) (k + 10) (omega arith) (omega arith) ∙ f in
     record {
       pool_left = rw (m, eq) (sym (pool_more sh p (length out - k) (omega arith)) ∙ i.pool_left);
       bytes_left = rw (m, t, eq, append_assoc) (rw (bytes_front sh p (length out - k) (omega arith), ← eb) at i.bytes_left);
     }
 
--- .. the same, as the code has it: the shape by the count of words at the start, and the hash by itself
-pub left_step : (n : ℕ) (p q : Pool) (out into b h : List ℕ) (k next : ℕ) (whole : Extract) → length p.words ≡ n → k < length out
-    → h ≡ (hashed (rounds (shape_of (length p.words))) initial_hash p.words).words → b ≡ folded h
-    → q ≡ mix (shape_of (length p.words)) p (words_bytes h)
-    → into ≡ sets out k (take (min 10 (length out - k)) b) → next ≡ k + min 10 (length out - k)
-    → Left (shape_of n) p out k whole → Left (shape_of n) q into next whole
-unfolding pool_hash
-left_step n p q out into b h k next whole l lt eh eb eq ei en i =
-    rw (← l)
-    (left_more (shape_of (length p.words)) p q out into b k next whole lt (rw eh at eb) (rw eh at eq) ei en (rw (← l) at i))
+-- .. the same, as the code has it: the hash by itself
+pub left_step : (sh : Shape) (p q : Pool) (out into b h : List ℕ) (k : ℕ) (whole : Extract) → k < length out
+    → h ≡ (pool_hash sh p).words → b ≡ folded h → q ≡ mix sh p (words_bytes h)
+    → into ≡ sets out k (take (min 10 (length out - k)) b)
+    → Left sh p out k whole → Left sh q into (k + 10) whole
+left_step sh p q out into b h k whole lt eh eb eq ei i =
+    left_more sh p q out into b k whole lt (rw eh at eb) (rw eh at eq) ei i
 
 -- none is left
 pub left_done : (sh : Shape) (p : Pool) (out : List ℕ) (k : ℕ) (whole : Extract) → length out ≤ k → Left sh p out k whole → (p ≡ whole.pool) × (out ≡ whole.bytes)
@@ -156,3 +171,12 @@ unfolding extract_blocks
 left_done sh p out k whole h i =
     let z : length out - k ≡ 0 = omega arith in
     (rw z at i.pool_left, rw (z, take_all k out h, append-nil out) at i.bytes_left)
+
+-- .. after one more block
+pub left_last : (sh : Shape) (p q : Pool) (out into b h : List ℕ) (k : ℕ) (whole : Extract) → k < length out → length out ≤ k + 10
+    → h ≡ (pool_hash sh p).words → b ≡ folded h → q ≡ mix sh p (words_bytes h)
+    → into ≡ sets out k (take (min 10 (length out - k)) b)
+    → Left sh p out k whole → (q ≡ whole.pool) × (into ≡ whole.bytes)
+left_last sh p q out into b h k whole lt le eh eb eq ei i =
+    let l : length into ≡ length out = ap length ei ∙ length-sets out k (take (min 10 (length out - k)) b) in
+    left_done sh q into (k + 10) whole (omega arith) (left_step sh p q out into b h k whole lt eh eb eq ei i)

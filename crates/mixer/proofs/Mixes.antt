@@ -112,6 +112,10 @@ unfolding mix
 mix-append sh p [] ys = refl
 mix-append sh p (x ∷ xs) ys = mix-append sh (mix_byte sh p x) xs ys
 
+-- a pool after some bytes, and then others
+pub mix_then : (sh : Shape) (p q r : Pool) (xs ys all : List ℕ) → xs ++ ys ≡ all → q ≡ mix sh p xs → r ≡ mix sh q ys → r ≡ mix sh p all
+mix_then sh p q r xs ys all e f g = rw (← e, mix-append sh p xs ys, ← f) g
+
 -- some, and then others
 pub mixed_then : (start : List ℕ) (s : Spot) (xs ys all ws vs : List ℕ) (p q : Place) → xs ++ ys ≡ all
     → Mixed start s xs ws p → Mixed ws (spot_of p) ys vs q → Mixed start s all vs q
@@ -121,14 +125,6 @@ mixed_then start s xs ys all ws vs p q e f g =
       as_many = g.as_many ∙ f.as_many;
       pool = rw (← e, mix-append (shape_of (length start)) (record { words = start; spot = s }) xs ys, ← f.pool) (rw f.as_many at g.pool);
     }
-
--- the taps stay those of the pool
-pub taps_on : {start bytes ws : List ℕ} {s : Spot} {p : Place} {t : Taps} → TapsOf (length start) t → Mixed start s bytes ws p → TapsOf (length ws) t
-taps_on ts m = rw m.as_many ts
-
--- those of the input pool are those of a pool of as many words
-pub taps_known : {n : ℕ} {t : Taps} → n ≡ input_words → TapsOf input_words t → TapsOf n t
-taps_known e ts = rw e ts
 
 -- the position stays small
 pub at-few : {start bytes ws : List ℕ} {s : Spot} {p : Place} → Mixed start s bytes ws p → p.at < input_words

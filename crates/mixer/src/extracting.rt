@@ -5,11 +5,12 @@ ghost use Rattle.words.specs.Bytes.{swapped, words_bytes};
 ghost use Rattle.secure_hash.specs.Sha1.{initial_hash};
 ghost use Rattle.pool.specs.Mixing.{mix};
 ghost use Rattle.ledger.specs.Shapes.{rounds};
-ghost use Rattle.pool.specs.Extracting.{hashed, folded, extract};
-ghost use Rattle.mixer.specs.Sizes.{shape_of, Size, InPool};
+ghost use Rattle.pool.specs.Extracting.{hashed, pool_hash, folded, extract};
+ghost use Rattle.mixer.specs.Sizes.{shape_of, Size};
+ghost use Rattle.mixer.specs.Pools.{pool_of, shape};
 
-use crate::mixing::{TWISTS, mix_by};
-use ledger::Spot;
+use crate::mixing::TWISTS;
+use crate::pools::Pool;
 use secure_hash::{compress, initial_hash};
 use words::{bytes_of_u32, put_u32, rotate_left, swap_bytes};
 
@@ -19,27 +20,32 @@ fn message(ws: &[u32], k: usize) -> [u32; 16]
     ensures { result ≡ map swapped (take 16 (drop k ws.now)) }
 {
     let mut m = [0u32; 16];
-    let mut i: usize = 0;
-    while i < 16 {
+    for i in 0..16 {
         m[i] = swap_bytes(ws[k + i]);
-        i += 1;
     }
     m
 }
 
-// The hash of the whole pool.
+// The hash of the whole pool. It takes the words as a slice, so that there is one for both pools: `compress` then has one caller and becomes
+// part of it, without which an extraction takes up to 6 parts in 100 longer.
 fn hash_pool(ws: &[u32]) -> [u32; 5]
     requires { Size (length ws.now) }
     ensures { result ≡ (hashed (rounds (shape_of (length ws.now))) initial_hash ws.now).words }
 {
     let mut h = initial_hash();
-    let mut k: usize = 0;
-    while k < ws.len() {
+    for k in (0..ws.len()).step_by(16) {
+        // by way of `g`: the prover does not follow an array from a call straight into a variable that stands already
         let g = compress(h, message(ws, k));
         h = g;
-        k += 16;
     }
     h
+}
+
+// .. of a pool that is lent.
+fn hash_of<const N: usize>(pool: &Pool<N>) -> [u32; 5]
+    ensures { result ≡ (pool_hash (shape pool.now) (pool_of pool.now)).words }
+{
+    hash_pool(pool.words)
 }
 
 // The ten bytes that a hash is folded to.
@@ -57,62 +63,47 @@ fn hash_bytes(h: [u32; 5]) -> [u8; 20]
     ensures { result ≡ words_bytes h }
 {
     let mut b = [0u8; 20];
-    let mut i: usize = 0;
-    while i < 5 {
+    for i in 0..5 {
         put_u32(&mut b, i * 4, h[i]);
-        i += 1;
     }
     b
 }
 
-// A hash mixed back into its pool. It goes in as bytes and not as words, and by `mix_by`: under an extraction the stack is deepest, and this
-// becomes part of it, where `mix` and `mix_words` would be called.
-fn mix_back(ws: &mut [u32], s: Spot, h: [u32; 5]) -> Spot
-    requires { InPool (length ws.old) s }
-    ensures result_after { (record { words = ws.new; spot = result }) ≡ mix (shape_of (length ws.old)) (record { words = ws.old; spot = s }) (words_bytes h) }
-    ensures in_pool { InPool (length ws.old) result }
+// Under an extraction the stack is deepest: here the twist's table is lent from where the program keeps it, and not laid out on the stack.
+static TABLE: [u32; 8] = TWISTS;
+
+// A hash mixed back into its pool. It goes in as bytes and not as words, and by `mix_by`, which becomes part of the extraction, where
+// `mix_words` would be called.
+fn mix_back<const N: usize>(pool: &mut Pool<N>, h: [u32; 5])
+    ensures same_words { pool.new.words.ghost_name ≡ pool.old.words.ghost_name }
+    ensures pool_after { pool_of pool.new ≡ mix (shape pool.old) (pool_of pool.old) (words_bytes h) }
 {
     let b = hash_bytes(h);
-    let table = TWISTS;
-    mix_by(ws, s, &table, &b)
+    pool.mix_by(&TABLE, &b);
 }
 
-// Ten, or as many as are left.
-fn ten_of(left: usize) -> usize
-    ensures { result ≡ min 10 left }
-{
-    if left < 10 { left } else { 10 }
-}
-
-// A block laid into the room from k on, shortened to what is left of it. Where the next one goes.
-fn put_block(out: &mut [u8], k: usize, b: [u8; 10]) -> usize
+// A block laid into the room from k on, shortened to what is left of it.
+fn put_block(out: &mut [u8], k: usize, b: [u8; 10])
     requires { k ≤ length out.old }
-    ensures out_after { out.new ≡ sets out.old k (take (min 10 (length out.old - k)) b) }
-    ensures value { result ≡ k + min 10 (length out.old - k) }
+    ensures { out.new ≡ sets out.old k (take (min 10 (length out.old - k)) b) }
 {
-    let n = ten_of(out.len() - k);
-    let mut i: usize = 0;
-    while i < n {
-        out[k + i] = b[i];
-        i += 1;
-    }
-    k + n
+    let n = (out.len() - k).min(10);
+    out[k..k + n].copy_from_slice(&b[..n]);
 }
 
-// Fills the room with bytes extracted from the pool: as many as the room has.
-pub fn extract(ws: &mut [u32], s: Spot, out: &mut [u8]) -> Spot
-    requires { InPool (length ws.old) s }
-    ensures ws_after { ws.new ≡ (extract (shape_of (length ws.old)) (length out.old) (record { words = ws.old; spot = s })).pool.words }
-    ensures value { result ≡ (extract (shape_of (length ws.old)) (length out.old) (record { words = ws.old; spot = s })).pool.spot }
-    ensures out_after { out.new ≡ (extract (shape_of (length ws.old)) (length out.old) (record { words = ws.old; spot = s })).bytes }
-    ensures in_pool { InPool (length ws.old) result }
-{
-    let mut spot = s;
-    let mut k: usize = 0;
-    while k < out.len() {
-        let h = hash_pool(ws);
-        spot = mix_back(ws, spot, h);
-        k = put_block(out, k, folded(h));
+impl<const N: usize> Pool<'_, N> {
+    // Fills the room with bytes extracted from the pool: as many as the room has.
+    // Never a part of its caller: what is copied here goes into the room that is lent, and in a front no copy is made (tests/copies).
+    #[inline(never)]
+    pub fn extract(&mut self, out: &mut [u8])
+        ensures same_words { self.new.words.ghost_name ≡ self.old.words.ghost_name }
+        ensures pool_after { pool_of self.new ≡ (extract (shape self.old) (length out.old) (pool_of self.old)).pool }
+        ensures out_after { out.new ≡ (extract (shape self.old) (length out.old) (pool_of self.old)).bytes }
+    {
+        for k in (0..out.len()).step_by(10) {
+            let h = hash_of(self);
+            mix_back(self, h);
+            put_block(out, k, folded(h));
+        }
     }
-    spot
 }

@@ -6,10 +6,12 @@ ghost use Rattle.ledger.specs.Places.{turned};
 ghost use Rattle.pool.specs.Mixing.{twist_table, twisted, tapped, mix};
 ghost use Rattle.mixer.specs.Sizes.{shape_of, Size, InPool, far_taps, TapsOf};
 ghost use Rattle.mixer.specs.Mixed.{spot_of, Stands, Mixed};
+ghost use Rattle.mixer.specs.Pools.{pool_of, shape};
 
+use crate::pools::Pool;
 use ledger::Spot;
 use ledger::sizes::INPUT_WORDS;
-use words::rotate_left;
+use words::{bytes_of_u32, rotate_left};
 
 // The taps of a pool, but for the last, which is 1 in both.
 #[derive(Clone, Copy)]
@@ -22,7 +24,7 @@ struct Taps {
 
 // A pool's place while bytes go in: position and rotation, and the word at the position. It is the one that was written last, and tap 1
 // of the next byte: kept here, no byte waits for a store and a load of it.
-#[derive(Drop)]
+#[derive(Clone, Copy)]
 struct Place {
     at: usize,
     turn: u32,
@@ -40,28 +42,32 @@ pub const TWISTS: [u32; 8] = [
     0xa00a_e278,
 ];
 
+const INPUT_TAPS: Taps = Taps {
+    a: 104,
+    b: 76,
+    c: 51,
+    d: 25,
+};
+
+const BLOCKING_TAPS: Taps = Taps {
+    a: 26,
+    b: 19,
+    c: 14,
+    d: 7,
+};
+
 // The taps of a pool of n words.
 fn taps_of(n: usize) -> Taps
     ensures { TapsOf n result }
 {
     if n == INPUT_WORDS {
-        Taps {
-            a: 104,
-            b: 76,
-            c: 51,
-            d: 25,
-        }
+        INPUT_TAPS
     } else {
-        Taps {
-            a: 26,
-            b: 19,
-            c: 14,
-            d: 7,
-        }
+        BLOCKING_TAPS
     }
 }
 
-// j modulo n.
+// j modulo n, as a mask: by `%` a byte takes a third longer, measured.
 fn around(j: usize, n: usize) -> usize
     requires { Size n }
     ensures { (result ≡ j % n) × (result < n) }
@@ -84,9 +90,10 @@ fn turned(at: usize, turn: u32) -> u32
     ensures { (result ≡ turned at turn) × (result ≤ 31) }
 {
     if at == 0 {
-        return (turn + 14) % 32;
+        (turn + 14) % 32
+    } else {
+        (turn + 7) % 32
     }
-    (turn + 7) % 32
 }
 
 // The word at j, modulo the word count.
@@ -94,8 +101,7 @@ fn word_at(ws: &[u32], j: usize) -> u32
     requires { Size (length ws.now) }
     ensures { result ≡ get_or ws.now (j % (shape_of (length ws.now)).words) 0 }
 {
-    let k = around(j, ws.len());
-    ws[k]
+    ws[around(j, ws.len())]
 }
 
 // x with the word at i and the words at four taps xored in.
@@ -126,30 +132,10 @@ fn put(ws: &mut [u32], t: Taps, table: &[u32], p: Place, b: u8) -> Place
     let v = twist(w, table) ^ twist(p.last, table);
     ws[at] = v;
     let turn = turned(at, p.turn);
-    Place {
-        at: at,
-        turn: turn,
-        last: v,
-    }
+    Place { at, turn, last: v }
 }
 
-// A word mixed in as its four bytes, the lowest first.
-fn put_word(ws: &mut [u32], t: Taps, table: &[u32], p: Place, x: u32) -> Place
-    requires table_value { table.now ≡ twist_table }
-    requires stands { Stands ws.old p }
-    requires taps_of { TapsOf (length ws.old) t }
-    ensures { Mixed ws.old (spot_of p) (le_bytes 4 x) ws.new result }
-{
-    let x1 = x / 256;
-    let x2 = x1 / 256;
-    let x3 = x2 / 256;
-    let p1 = put(ws, t, table, p, (x % 256) as u8);
-    let p2 = put(ws, t, table, p1, (x1 % 256) as u8);
-    let p3 = put(ws, t, table, p2, (x2 % 256) as u8);
-    put(ws, t, table, p3, (x3 % 256) as u8)
-}
-
-// The place of a spot.
+// The place of a spot. No `From`: what it asks of the words and of the spot, a conversion cannot ask.
 fn place_of(ws: &[u32], s: Spot) -> Place
     requires { InPool (length ws.now) s }
     ensures { (spot_of result ≡ s) × Stands ws.now result }
@@ -157,7 +143,7 @@ fn place_of(ws: &[u32], s: Spot) -> Place
     let at = s.at as usize;
     let w = ws[at];
     Place {
-        at: at,
+        at,
         turn: s.turn,
         last: w,
     }
@@ -174,49 +160,42 @@ fn spot_of(p: Place) -> Spot
     }
 }
 
-// Words mixed into the input pool, each as its four bytes, the first first. Events and spills go nowhere else, and so its taps are known here and
-// not chosen at each call.
-pub fn mix_words(ws: &mut [u32], s: Spot, words: &[u32]) -> Spot
-    requires in_pool { InPool (length ws.old) s }
-    requires ws_len { length ws.old ≡ input_words }
-    ensures result_after { (record { words = ws.new; spot = result }) ≡ mix (shape_of (length ws.old)) (record { words = ws.old; spot = s }) (words_bytes words.entry.now) }
-    ensures in_pool_2 { InPool (length ws.old) result }
-{
-    let t = taps_of(INPUT_WORDS);
-    let table = TWISTS;
-    let mut p = place_of(ws, s);
-    let mut k = 0;
-    while k < words.len() {
-        p = put_word(ws, t, &table, p, words[k]);
-        k += 1;
+impl<const N: usize> Pool<'_, N> {
+    // Bytes mixed into a pool of 128 or 32 words, the first first, by a table that the caller has. Without the table it is small enough for
+    // the compiler to make it part of its caller.
+    pub fn mix_by(&mut self, table: &[u32], bytes: &[u8])
+        requires { table.now ≡ twist_table }
+        ensures same_words { self.new.words.ghost_name ≡ self.old.words.ghost_name }
+        ensures pool_after { pool_of self.new ≡ mix (shape self.old) (pool_of self.old) bytes.now }
+    {
+        let ws = &mut *self.words;
+        let t = taps_of(ws.len());
+        let mut p = place_of(ws, self.spot);
+        for b in bytes {
+            p = put(ws, t, table, p, *b);
+        }
+        self.spot = spot_of(p);
     }
-    spot_of(p)
-}
 
-// Bytes mixed into a pool of 128 or 32 words, the first first, by a table that the caller has. Without the table it is small enough for the
-// compiler to make it part of its caller.
-pub fn mix_by(ws: &mut [u32], s: Spot, table: &[u32], bytes: &[u8]) -> Spot
-    requires table_value { table.now ≡ twist_table }
-    requires in_pool { InPool (length ws.old) s }
-    ensures result_after { (record { words = ws.new; spot = result }) ≡ mix (shape_of (length ws.old)) (record { words = ws.old; spot = s }) bytes.now }
-    ensures in_pool_2 { InPool (length ws.old) result }
-{
-    let t = taps_of(ws.len());
-    let mut p = place_of(ws, s);
-    let mut k = 0;
-    while k < bytes.len() {
-        p = put(ws, t, table, p, bytes[k]);
-        k += 1;
+    // .. and by a table of its own. The bytes are lent anew: handed on as they are, they would go by way of the stack.
+    pub fn mix(&mut self, bytes: &[u8])
+        ensures same_words { self.new.words.ghost_name ≡ self.old.words.ghost_name }
+        ensures pool_after { pool_of self.new ≡ mix (shape self.old) (pool_of self.old) bytes.now }
+    {
+        let table = TWISTS;
+        self.mix_by(&table, &bytes[..]);
     }
-    spot_of(p)
-}
 
-// .. and by a table of its own. The bytes are lent anew: handed on as they are, they would go by way of the stack.
-pub fn mix(ws: &mut [u32], s: Spot, bytes: &[u8]) -> Spot
-    requires { InPool (length ws.old) s }
-    ensures result_after { (record { words = ws.new; spot = result }) ≡ mix (shape_of (length ws.old)) (record { words = ws.old; spot = s }) bytes.now }
-    ensures in_pool { InPool (length ws.old) result }
-{
-    let table = TWISTS;
-    mix_by(ws, s, &table, &bytes[..])
+    // Words, each as its four bytes, the first first. A call of its own: as part of an event, what it needs would lie on the stack under the
+    // extraction that follows, and past nk_event's limit.
+    #[inline(never)]
+    pub fn mix_words(&mut self, words: &[u32])
+        ensures same_words { self.new.words.ghost_name ≡ self.old.words.ghost_name }
+        ensures pool_after { pool_of self.new ≡ mix (shape self.old) (pool_of self.old) (words_bytes words.now) }
+    {
+        let table = TWISTS;
+        for x in words {
+            self.mix_by(&table, &bytes_of_u32(*x));
+        }
+    }
 }

@@ -1,19 +1,20 @@
 -- A room filled by turns: their lines stand one behind another at its start, and are the batch's.
-use mathlib.Core.Path.{◌≡◌, refl, sym, ap, ◌∙◌}
+use mathlib.Core.Path.{◌≡◌, refl, sym, ap, subst, ◌∙◌}
 use mathlib.Core.Bool.{Bool, true, false}
 use mathlib.Core.List.{List, [], ◌++◌}
-use Prim.Native.Nat.{ℕ, zero, suc, ◌+◌, ◌≤◌, ◌<◌}
+use Prim.Native.Nat.{ℕ, zero, suc, ◌+◌, ◌-◌, ◌≤◌, ◌<◌}
 use native.Mathlib.Omega.{arith}
 use borrow.Author.Tests.{le-leb, lt-leb}
 use lib.ListN.{length, take, drop, length-append, length-drop}
-use lib.Seq.{sets-eq, take-append_seam, drop-append-add, drop-drop}
+use borrow.Rule.Slice.PartMut.{put_mid}
+use lib.Seq.{sets-eq, length-take-le, take-append_seam, drop-append-add, drop-drop}
 use Rattle.ledger.specs.Choice.{pick}
 use Rattle.ledger.specs.Sizes.{longest}
 use Rattle.transcript.specs.Text.{Put}
 use Rattle.transcript.specs.Lines.{longest_line}
+use Rattle.transcript.proofs.Writing.{copied}
 use Rattle.keeper.specs.declared.Keeper.{Keeper}
-use Rattle.replay.specs.Turns.{turn_of, Took}
-use Rattle.replay.specs.declared.turns.Turn.{Turn}
+use Rattle.replay.specs.Turns.{turn_of, Took, Turn}
 use Rattle.nk.specs.Batches.{batch_room, most_before, Lines, turns_behind, batch_of, Laid}
 use Rattle.replay.proofs.OneTurn.{ahead}
 use Rattle.nk.proofs.Turning.{short}
@@ -55,6 +56,11 @@ laid-behind text line room room' end fits p =
     let front : take (length text) (onto text room) ≡ text = take-append_seam text _ in
     (p.place ∙ sym l, p.stored ∙ sets-eq line (onto text room) (length text) fits ∙ (λ i. (front i ++ line) ++ past i))
 
+-- .. as it is copied there
+laid_line : (room letters new : List ℕ) (at n : ℕ) → length letters ≡ n → at + n ≤ length room → new ≡ letters → Put room (put_mid at (at + n - at) room new) at letters (at + n)
+laid_line room letters new at n l h e =
+    subst (λ (m : ℕ). Put room (put_mid at (at + m - at) room new) at letters (at + m)) l (record { place = refl; stored = copied room letters new at (omega (arith, l, h)) e })
+
 -- ---- turns under way, from a position, a keeper and a room: the room's text, and the turns from here on behind it, are the batch
 pub record Filling (v : ℕ) (j : List ℕ) (from : ℕ) (first : Keeper) (bare : List ℕ) (at : ℕ) (k : Keeper) (count : ℕ) (room line : List ℕ) : Type 0 where
   pub text : List ℕ
@@ -94,8 +100,19 @@ module _ (v : ℕ) (j : List ℕ) (from : ℕ) (first : Keeper) (bare : List ℕ
   pub in_line : t.count ≤ length line'
   in_line = let h = count_few in let l = line-length in omega arith
 
+  -- the room is as long as it was
+  pub as_roomy : length bare ≡ batch_room → length room ≡ batch_room
+  as_roomy roomy =
+      let f = g.space in
+      let n = g.counted in
+      omega (arith, ap length g.laid, length-append g.text (drop (length g.text) bare), length-drop (length g.text) bare, roomy)
+
   pub room_for : length room ≡ batch_room → count + t.count ≤ length room
   room_for roomy = let h = count_few in let f = g.space in omega (arith, roomy)
+
+  -- the line, copied behind the text
+  pub put_line : (new : List ℕ) → length room ≡ batch_room → new ≡ take t.count line' → Put room (put_mid count (count + t.count - count) room new) count (take t.count line') (count + t.count)
+  put_line new roomy e = laid_line room (take t.count line') new count t.count (length-take-le t.count line' in_line) (room_for roomy) e
 
   module _ (roomy : length room ≡ batch_room) (room' : List ℕ) (end : ℕ) (put : Put room room' count (take t.count line') end) where
     behind : (end ≡ length (g.text ++ (turn_of v j at k).line)) × (room' ≡ onto (g.text ++ (turn_of v j at k).line) bare)
@@ -107,7 +124,7 @@ module _ (v : ℕ) (j : List ℕ) (from : ℕ) (first : Keeper) (bare : List ℕ
 
     -- the last turn of a batch
     whole : (b : Bool) → t.more ≡ b → turns_behind (suc g.turns) v j at k g.text ≡ over v j at k g.text
-        → Laid (batch_of v j from first) k' (record { ledger = k'.ledger; at = t.at; more = b; count = end }) bare room'
+        → Laid (batch_of v j from first) k' (record { at = t.at; more = b; count = end }) bare room'
     whole b m e =
         let s : over v j at k g.text ≡ batch_of v j from first = sym e ∙ g.same in
         record {
@@ -118,10 +135,10 @@ module _ (v : ℕ) (j : List ℕ) (from : ℕ) (first : Keeper) (bare : List ℕ
           written = behind.1 ∙ ap (λ (l : Lines). onto l.text bare) s;
         }
 
-    pub ended : t.more ≡ false → Laid (batch_of v j from first) k' (record { ledger = k'.ledger; at = t.at; more = false; count = end }) bare room'
+    pub ended : t.more ≡ false → Laid (batch_of v j from first) k' (record { at = t.at; more = false; count = end }) bare room'
     ended e = whole false e (last_turn g.turns v j at k g.text (sym took.more ∙ e))
 
-    pub full : t.more ≡ true → most_before < end → Laid (batch_of v j from first) k' (record { ledger = k'.ledger; at = t.at; more = true; count = end }) bare room'
+    pub full : t.more ≡ true → most_before < end → Laid (batch_of v j from first) k' (record { at = t.at; more = true; count = end }) bare room'
     full e h = whole true e (full_turn g.turns v j at k g.text (omega (arith, h, behind.0)))
 
     pub again : t.more ≡ true → end ≤ most_before → Filling v j from first bare t.at k' end room' line'

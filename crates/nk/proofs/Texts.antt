@@ -12,7 +12,7 @@ use lib.Seq.{take-append_seam, get_or-drop, drop-drop}
 use Rattle.ledger.specs.Choice.{pick}
 use Rattle.ledger.specs.Sizes.{start_bytes}
 use Rattle.journal.specs.Header.{records_begin, header_of, version_of, start_of}
-use Rattle.journal.specs.declared.heading.Heading.{Heading}
+use Rattle.journal.specs.Found.{Heading}
 use Rattle.journal.proofs.GoodHeader.{heading_good}
 use Rattle.journal.proofs.Sides.{by_same}
 use Rattle.transcript.specs.Lines.{Written, end_of, end_in, at_start, longest_end}

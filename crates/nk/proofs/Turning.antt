@@ -11,8 +11,7 @@ use Rattle.ledger.specs.Sizes.{longest}
 use Rattle.journal.specs.Reading.{read_at}
 use Rattle.journal.specs.Header.{records_begin, header_of, version_of, start_of}
 use Rattle.journal.specs.Walking.{entry}
-use Rattle.journal.specs.declared.records.Found.{Found}
-use Rattle.journal.specs.declared.records.Found.TheVariants.{One, Stop, End}
+use Rattle.journal.specs.Found.{Found, One, Stop, End}
 use Rattle.transcript.specs.Lines.{longest_line, longest_end}
 use Rattle.transcript.proofs.Laws.{longest as longest-line, longest_end_lem}
 use Rattle.keeper.specs.Narrative.{told}

@@ -1,3 +1,2 @@
 pub mod TurnByTurn
-pub mod WithLine
 pub mod AllLines

@@ -12,18 +12,15 @@ use Rattle.ledger.specs.declared.Answer.{Answer}
 use Rattle.journal.specs.Header.{records_begin, header_of, version_of, start_of}
 use Rattle.journal.specs.Reading.{read_at}
 use Rattle.journal.specs.Walking.{Walk}
-use Rattle.journal.specs.declared.heading.Heading.{Heading}
-use Rattle.journal.specs.declared.records.Found.{Found}
-use Rattle.journal.specs.declared.records.Found.TheVariants.{One, Stop, End}
+use Rattle.journal.specs.Found.{Found, One, Stop, End, Heading}
 use Rattle.journal.proofs.Walks.{walk_one, walk-stop, walk_end, good_walk}
 use Rattle.keeper.specs.Record.{fresh}
 use Rattle.keeper.specs.Demands.{keeper_after}
 use Rattle.keeper.specs.declared.Keeper.{Keeper}
 use Rattle.steps.specs.Promise.{left, leaves_made}
 use Rattle.replay.specs.Running.{call_of}
-use Rattle.replay.specs.Turns.{after, turn_of, Took}
+use Rattle.replay.specs.Turns.{after, turn_of, Took, Turn}
 use Rattle.replay.specs.Whole.{replayed}
-use Rattle.replay.specs.declared.turns.Turn.{Turn}
 use Rattle.replay.proofs.OneTurn.{ahead}
 use Rattle.replay.proofs.Begun.{good, begins, made_fresh}
 use Rattle.numbering.specs.Running.{ran_from}

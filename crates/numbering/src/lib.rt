@@ -1,6 +1,6 @@
 // Message numbers issued behind a journal: the journal is run on a fresh keeper, and the desk then issues at a clock, a line for each number.
 //
-// `running` runs a journal on a keeper's parts, of which the contract says that they are then the very keeper that the journal's transcript
+// `running` runs a journal on a keeper's record, of which the contract says that it is then the very keeper that the journal's transcript
 // leaves. `lines` issues one number on that keeper and a desk, and lays its line into a room. Nothing that was issued before is remembered: a desk
 // is no part of a journal, so each run begins with an empty one.
 //
@@ -11,5 +11,5 @@
 pub mod lines;
 mod running;
 
-pub use lines::{LONGEST_ISSUED, Numbered, number_line};
+pub use lines::{LONGEST_ISSUED, number_line};
 pub use running::replay_on;

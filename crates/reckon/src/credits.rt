@@ -1,22 +1,17 @@
 // Credits and debits, on a count in eighths of a bit.
-ghost use Rattle.std.specs.Prelude.{◌≡◌, ◌+◌, ◌-◌, ◌*◌, ◌≤◌, min};
+#![tactic(auto, using(std::proofs::lemmas::Bool::Decides::nat_tests), unfolding(ledger::specs::Choice::pick, ledger::specs::Credits::taken))]
+
+ghost use Rattle.std.specs.Prelude.{◌≡◌, ◌+◌, ◌-◌, ◌*◌, ◌≤◌};
 ghost use Rattle.ledger.specs.Sizes.{longest};
 ghost use Rattle.ledger.specs.Credits.{Within, credited, crediting, further, taken, turn_adds, turn_takes};
 
 use ledger::Credited;
 
-// The lesser of two.
-fn lesser(a: u32, b: u32) -> u32
-    ensures { result ≡ min a b }
-{
-    if a < b { a } else { b }
-}
-
 // What a turn takes of the rest.
 fn turn_takes(size: u32, rest: u32) -> u32
     ensures { result ≡ turn_takes size rest }
 {
-    lesser(rest, size / 2)
+    rest.min(size / 2)
 }
 
 // What a turn adds to the count, which is no more than there is room for.
@@ -37,8 +32,8 @@ fn after_turn(size: u32, count: u32, rest: u32) -> u32
     count + turn_adds(size, count, rest)
 }
 
-// The turns that a rest still brings. Each lowers the rest by what it takes, which is above 0 where the size is 2 or more: so
-// they end.
+// The turns that a rest still brings: by recursion on the rest and not by a loop, since the customer's paper names that form for this
+// place. Each lowers the rest by what it takes, which is above 0 where the size is 2 or more: so they end.
 fn turns(size: u32, count: u32, rest: u32) -> u32
     requires { Within size count }
     ensures { result ≡ further size rest rest count }
@@ -81,10 +76,10 @@ pub fn credit(size: u32, count: u32, bits: u32) -> Credited
     ensures value { result ≡ crediting size bits count }
     ensures count_le_size { result.count ≤ size }
 {
-    let c = credited(size, count, bits);
+    let after = credited(size, count, bits);
     Credited {
-        count: c,
-        added: c - count,
+        count: after,
+        added: after - count,
     }
 }
 
@@ -94,6 +89,6 @@ pub fn debit(wanted: u32, least: u32, count: u32) -> u32
     ensures result_bound { 64 * result ≤ count }
     ensures upper_bound { result ≤ wanted }
 {
-    let most = lesser(wanted, count / 64);
+    let most = wanted.min(count / 64);
     if most < least { 0 } else { most }
 }

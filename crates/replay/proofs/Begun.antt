@@ -6,7 +6,7 @@ use lib.ListN.{length, take, drop}
 use Rattle.ledger.specs.Sizes.{start_bytes}
 use Rattle.ledger.specs.declared.Answer.{Answer}
 use Rattle.journal.specs.Header.{records_begin, header_of, start_of}
-use Rattle.journal.specs.declared.heading.Heading.{Heading}
+use Rattle.journal.specs.Found.{Heading}
 use Rattle.journal.proofs.GoodHeader.{heading_good}
 use Rattle.journal.proofs.Laws.{start_48}
 use Rattle.keeper.specs.Record.{Outcome, fresh}

@@ -8,7 +8,7 @@ use borrow.Author.Tests.{eq-eqb, ne_eqb}
 use lib.ListN.{length, take, length-take}
 use Rattle.ledger.specs.Choice.{pick}
 use Rattle.journal.specs.Header.{records_begin, header_of, version_of, start_of}
-use Rattle.journal.specs.declared.heading.Heading.{Heading}
+use Rattle.journal.specs.Found.{Heading}
 use Rattle.journal.specs.Walking.{Entry, Walk, walk, walk_of}
 use Rattle.journal.specs.Cutting.{up_to}
 use Rattle.journal.proofs.Laws.{carried_cut, start_cut}

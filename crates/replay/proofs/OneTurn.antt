@@ -9,8 +9,7 @@ use lib.ListN.{length, take, drop}
 use Rattle.journal.specs.Reading.{read_at}
 use Rattle.journal.specs.Walking.{entry}
 use Rattle.journal.specs.declared.records.Record.{Record}
-use Rattle.journal.specs.declared.records.Found.{Found}
-use Rattle.journal.specs.declared.records.Found.TheVariants.{One, Stop, End}
+use Rattle.journal.specs.Found.{Found, One, Stop, End}
 use Rattle.journal.proofs.Onward.{read_ahead}
 use Rattle.ledger.specs.Choice.{pick}
 use Rattle.ledger.specs.Sizes.{longest}
@@ -38,14 +37,14 @@ ended room b n number big h =
 
 module _ (v : ℕ) (j : List ℕ) (at : ℕ) (k : Keeper) (room room' : List ℕ) (n : ℕ) (big : longest_line longest ≤ length room) where
   pub at-stop : (number : ℕ) (out : List ℕ) → read_at v j at ≡ Stop number → ◌≡◌ {A = Written} (record { count = n; room = room' }) (end_in room number)
-      → Took (turn_of v j at k) k (record { ledger = k.ledger; at = at; more = false; count = n }) out out room room'
+      → Took (turn_of v j at k) k (record { at = at; more = false; count = n }) out out room room'
   unfolding turn_of after
   at-stop number out e h =
       let q = ended room room' n number big h in
       rw e (record { keeper = refl; at = refl; more = refl; count = q.0; handed = refl; written = q.1 })
 
   pub at_end : (out : List ℕ) → read_at v j at ≡ End → ◌≡◌ {A = Written} (record { count = n; room = room' }) (end_in room 0)
-      → Took (turn_of v j at k) k (record { ledger = k.ledger; at = at; more = false; count = n }) out out room room'
+      → Took (turn_of v j at k) k (record { at = at; more = false; count = n }) out out room room'
   unfolding turn_of after
   at_end out e h =
       let q = ended room room' n 0 big h in
@@ -54,7 +53,7 @@ module _ (v : ℕ) (j : List ℕ) (at : ℕ) (k : Keeper) (room room' : List ℕ
   pub at_one : (r : Record) (next : ℕ) (k' : Keeper) (a : Answer) (out out' : List ℕ) → read_at v j at ≡ One r next
       → left k' a out' ≡ leaves k (call_of v j (entry at r next)) out
       → ◌≡◌ {A = Written} (record { count = n; room = room' }) (line_in room a k'.ledger.input.count k'.ledger.blocking.count (take a.delivered out'))
-      → Took (turn_of v j at k) k' (record { ledger = k'.ledger; at = next; more = true; count = n }) out out' room room'
+      → Took (turn_of v j at k) k' (record { at = next; more = true; count = n }) out out' room room'
   unfolding turn_of after line_in line_for leaves pick
   at_one r next k' a out out' e l h =
       let c = call_of v j (entry at r next) in

@@ -9,8 +9,7 @@ use Rattle.ledger.specs.Choice.{pick}
 use Rattle.journal.specs.Reading.{read_at}
 use Rattle.journal.specs.Header.{records_begin, header_of, version_of, start_of}
 use Rattle.journal.specs.Walking.{entry, Walk, walk}
-use Rattle.journal.specs.declared.records.Found.{Found}
-use Rattle.journal.specs.declared.records.Found.TheVariants.{One, Stop, End}
+use Rattle.journal.specs.Found.{Found, One, Stop, End}
 use Rattle.journal.proofs.Cut.{past}
 use Rattle.journal.proofs.Onward.{read_ahead}
 use Rattle.journal.proofs.Walks.{walk_one, walk-stop, walk_end, good_walk, bad_walk}

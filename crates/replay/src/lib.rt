@@ -3,7 +3,7 @@
 // `running` runs one record: it makes the call that the record stands for, with the bytes of a write or a seed as a part of the journal
 // itself. `turns` takes one turn: it runs what stands at a position and writes its line into a lent room, or writes the last line.
 //
-// The keeper goes in parts, as in `steps`: the ledger by value, the arrays lent. specs/Whole.antt has the whole transcript as a function of
+// The keeper's record is lent, as in `steps`. specs/Whole.antt has the whole transcript as a function of
 // the journal's bytes; proofs/ shows that the lines which turns write one after another are it.
 #![tactic(auto)]
 

@@ -10,7 +10,7 @@ use Rattle.journal.specs.Layout.{devices_in}
 use Rattle.journal.specs.Header.{header_of, version_of}
 use Rattle.journal.specs.Walking.{Entry, walk_of}
 use Rattle.journal.specs.Writing.{Said, said_at, said_in}
-use Rattle.journal.specs.declared.heading.Heading.{Heading}
+use Rattle.journal.specs.Found.{Heading}
 use Rattle.journal.specs.declared.records.Record.{Record}
 use Rattle.journal.specs.declared.records.Record.TheVariants.{Event, Interrupt, Write, Seed, Read, BlockingRead}
 use Rattle.journal.proofs.Runs.{Bytes}

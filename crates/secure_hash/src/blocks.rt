@@ -5,9 +5,10 @@ ghost use Rattle.secure_hash.specs.Sha1.{initial_hash, compressed};
 
 use crate::ring::next_four;
 use crate::steps::{four, of_twenty};
-use std::num::wrapping_add_u32;
+use words::add_words;
 
 // The initial hash value.
+#[tactic(auto, unfolding(crate::specs::Sha1::initial_hash))]
 pub fn initial_hash() -> [u32; 5]
     ensures { result ≡ initial_hash }
 {
@@ -20,35 +21,21 @@ pub fn initial_hash() -> [u32; 5]
     ]
 }
 
-// t[i] += s[i] for each word.
-fn add_words(mut t: [u32; 5], s: [u32; 5]) -> [u32; 5]
-    ensures { result ≡ add_words t s }
-{
-    let mut i: usize = 0;
-    while i < 5 {
-        t[i] = wrapping_add_u32(t[i], s[i]);
-        i += 1;
-    }
-    t
-}
-
 // The hash value after the block m, from the hash value h. Before step 64 the ring has the last of the words, and from there on it is left as it is.
 pub fn compress(h: [u32; 5], m: [u32; 16]) -> [u32; 5]
     ensures { result ≡ compressed h m }
 {
     let mut w = m;
     let mut s = h;
-    let mut t: usize = 0;
-    while t < 64 {
+    for t in (0..64).step_by(4) {
+        // by way of `r`: the prover does not follow an array from a call straight into a variable that stands already
         let r = four(s, t, &w);
         s = r;
         next_four(&mut w, t);
-        t += 4;
     }
-    while t < 80 {
-        let r = of_twenty(s, 3, t, &w);
+    for t in (64..80).step_by(4) {
+        let r = of_twenty::<3>(s, t, &w);
         s = r;
-        t += 4;
     }
     add_words(s, h)
 }

@@ -10,6 +10,9 @@ use Rattle.ledger.specs.Sizes.{devices, input_words, blocking_words, longest}
 use Rattle.ledger.specs.Timers.{fresh_timer, timer_of}
 use Rattle.ledger.specs.Range.{View, ledger_in_range, timer_in_range, others_in_range, in_range}
 use Rattle.ledger.specs.PublicCalls.{PublicCall, event, interrupt, write, seed, read, blocking_read, device_of}
+use Rattle.ledger.specs.Refusals.{number_of}
+use Rattle.ledger.specs.declared.refusals.Refusal.{Refusal}
+use Rattle.ledger.specs.declared.refusals.Refusal.TheVariants.{WouldBlock, Unseeded, TooLong, NoSuchDevice, CreditTooHigh, StartNot48, Repeated, MarkWrong, VersionWrong, CutShort, UnknownKind, JournalTooLarge, NoSuchClass, AllRepeated, IndexDiffers, OutOfRange, NoSuchRecord, RoomTooShort}
 use Rattle.ledger.specs.Plans.{idle, feed, transferred, refilled, plan_event, plan_interrupt, plan_write, plan_seed, plan_read, plan_blocking_read, plan_call, decide}
 use Rattle.ledger.specs.Machine.{plan_at}
 use Rattle.ledger.specs.declared.Ledger.{Ledger}
@@ -39,6 +42,27 @@ in_pools others l t c p e z =
     let i = ledger_in_range l in
     let j = timer_in_range t in
     pick_by P (others && (i && j)) (λ h n. pools l (ledger_fine l (and_left i j (and_right others (i && j) h)))) (λ h n. absurd (omega (arith, n))) (ap (λ (q : Plan). q.number) (sym e) ∙ z)
+
+-- a refusal's number is not 0
+pub refused_other : (why : Refusal) → number_of why ≡ 0 → ⊥
+refused_other WouldBlock e = absurd (omega (arith, e))
+refused_other Unseeded e = absurd (omega (arith, e))
+refused_other TooLong e = absurd (omega (arith, e))
+refused_other NoSuchDevice e = absurd (omega (arith, e))
+refused_other CreditTooHigh e = absurd (omega (arith, e))
+refused_other StartNot48 e = absurd (omega (arith, e))
+refused_other Repeated e = absurd (omega (arith, e))
+refused_other MarkWrong e = absurd (omega (arith, e))
+refused_other VersionWrong e = absurd (omega (arith, e))
+refused_other CutShort e = absurd (omega (arith, e))
+refused_other UnknownKind e = absurd (omega (arith, e))
+refused_other JournalTooLarge e = absurd (omega (arith, e))
+refused_other NoSuchClass e = absurd (omega (arith, e))
+refused_other AllRepeated e = absurd (omega (arith, e))
+refused_other IndexDiffers e = absurd (omega (arith, e))
+refused_other OutOfRange e = absurd (omega (arith, e))
+refused_other NoSuchRecord e = absurd (omega (arith, e))
+refused_other RoomTooShort e = absurd (omega (arith, e))
 
 -- ---- what is decided with any timer in range is what the plan at a view is, for a call that has no device
 agree : (r l t : Bool) → (r && (l && t)) ≡ (l && r) → (r && (l && true)) ≡ (r && (l && t))

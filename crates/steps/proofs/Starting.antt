@@ -1,51 +1,25 @@
 -- The generator's words of 48 start bytes, one by one as the code reads them.
 use mathlib.Core.Path.{◌≡◌, refl, sym, ap}
 use mathlib.Core.List.{List, [], ◌∷◌, ◌++◌}
-use Prim.Native.Nat.{ℕ, zero, suc, ◌+◌, ◌*◌, ◌≤◌}
+use Prim.Native.Nat.{ℕ, zero, suc, ◌*◌, ◌≤◌, ◌<◌}
 use native.Mathlib.Omega.{arith}
 use lib.ListN.{length, get_or, take}
+use Rattle.std.specs.Simd.{first_chunks}
 use Rattle.words.specs.Bytes.{le_number, bytes_words}
 use Rattle.words.proofs.Numbers.{length-bytes_words_whole}
 use Rattle.words.proofs.WrittenOut.{gets, gets_all}
 use Rattle.ledger.specs.Range.{fixed_words}
 
--- where the bytes of word i begin
-unfoldable from : ℕ → ℕ
-from zero = 0
-from (suc i) = suc (suc (suc (suc (from i))))
-
-from_four : (i : ℕ) → from i ≡ 4 * i
-unfolding from
-from_four zero = refl
-from_four (suc i) = let h = from_four i in omega (arith, h)
-
--- the four bytes at a place
-abbrev four_from : List ℕ → ℕ → ℕ
-four_from bs k = le_number (get_or bs k 0 ∷ get_or bs (suc k) 0 ∷ get_or bs (suc (suc k)) 0 ∷ get_or bs (suc (suc (suc k))) 0 ∷ [])
-
-words_by_four : (bs : List ℕ) (i : ℕ) → from i + 4 ≤ length bs → get_or (bytes_words bs) i 0 ≡ four_from bs (from i)
-unfolding from bytes_words
-words_by_four [] zero h = absurd (omega arith)
-words_by_four [] (suc i) h = absurd (omega arith)
-words_by_four (a ∷ []) zero h = absurd (omega arith)
-words_by_four (a ∷ []) (suc i) h = absurd (omega arith)
-words_by_four (a ∷ b ∷ []) zero h = absurd (omega arith)
-words_by_four (a ∷ b ∷ []) (suc i) h = absurd (omega arith)
-words_by_four (a ∷ b ∷ c ∷ []) zero h = absurd (omega arith)
-words_by_four (a ∷ b ∷ c ∷ []) (suc i) h = absurd (omega arith)
-words_by_four (a ∷ b ∷ c ∷ d ∷ bs) zero h = refl
-words_by_four (a ∷ b ∷ c ∷ d ∷ bs) (suc i) h = words_by_four bs i (omega arith)
-
--- the same, with the places as the code reckons them
-pub word_read : (bs : List ℕ) (i : ℕ) → 4 * i + 4 ≤ length bs
-    → le_number (get_or bs (4 * i) 0 ∷ get_or bs (4 * i + 1) 0 ∷ get_or bs (4 * i + 2) 0 ∷ get_or bs (4 * i + 3) 0 ∷ []) ≡ get_or (bytes_words bs) i 0
-word_read bs i h =
-    let f = from_four i in
-    let e0 : 4 * i ≡ from i = sym f in
-    let e1 : 4 * i + 1 ≡ suc (from i) = omega (arith, f) in
-    let e2 : 4 * i + 2 ≡ suc (suc (from i)) = omega (arith, f) in
-    let e3 : 4 * i + 3 ≡ suc (suc (suc (from i))) = omega (arith, f) in
-    rw (e3, e2, e1, e0) (sym (words_by_four bs i (omega (arith, f))))
+-- a word, of the bytes taken by fours
+pub word_read : (n : ℕ) (bs : List ℕ) (i : ℕ) → i < n → 4 * n ≤ length bs → le_number (get_or (first_chunks 4 n bs) i []) ≡ get_or (bytes_words bs) i 0
+unfolding bytes_words
+word_read zero bs i h k = absurd (omega arith)
+word_read (suc n) (a ∷ b ∷ c ∷ d ∷ bs) zero h k = refl
+word_read (suc n) (a ∷ b ∷ c ∷ d ∷ bs) (suc i) h k = word_read n bs i (omega arith) (omega arith)
+word_read (suc n) [] i h k = absurd (omega arith)
+word_read (suc n) (a ∷ []) i h k = absurd (omega arith)
+word_read (suc n) (a ∷ b ∷ []) i h k = absurd (omega arith)
+word_read (suc n) (a ∷ b ∷ c ∷ []) i h k = absurd (omega arith)
 
 -- the generator's first words, written out
 pub first_words : (bs : List ℕ) → length bs ≡ 48 → fixed_words ++ gets 12 0 (bytes_words bs) ≡ fixed_words ++ bytes_words bs

@@ -1,6 +1,6 @@
 -- The two strokes of each call, as the code makes them, leave what the paper tells. Each fact here takes what the called functions
 -- promise and gives the call's contract.
-use mathlib.Core.Path.{◌≡◌, refl, sym, ap, ap₂, ◌∙◌}
+use mathlib.Core.Path.{◌≡◌, refl, sym, ap, ap₂, subst, ◌∙◌}
 use mathlib.Core.Bool.{Bool, true, false}
 use mathlib.Core.List.{List, [], ◌++◌, append-nil}
 use Prim.Native.Nat.{ℕ}
@@ -9,17 +9,18 @@ use lib.ListN.{length, take, drop, drop_of_length-le}
 use Rattle.words.specs.Bytes.{words_bytes, bytes_words}
 use Rattle.ledger.specs.Choice.{pick}
 use Rattle.ledger.specs.Shapes.{Shape, input_shape, blocking_shape}
-use Rattle.ledger.specs.Marks.{with_spots}
+use Rattle.ledger.specs.Marks.{placing, with_input, with_blocking, with_spots}
 use Rattle.ledger.specs.Range.{others_in_range}
 use Rattle.ledger.specs.PublicCalls.{PublicCall, event, interrupt, write, seed, read, blocking_read}
 use Rattle.ledger.specs.Sizes.{input_words, blocking_words}
 use Rattle.ledger.specs.Timers.{Timers, fresh_timer, timer_of, kept}
-use Rattle.ledger.specs.Plans.{plan_call, decide, answer_of, bare}
+use Rattle.ledger.specs.Plans.{feed, plan_event, plan_interrupt, plan_write, plan_seed, plan_read, plan_blocking_read, plan_call, decide, answer_of, bare}
 use Rattle.ledger.specs.Machine.{timers_after, plan_at}
 use Rattle.ledger.specs.declared.Ledger.{Ledger}
 use Rattle.ledger.specs.declared.Plan.{Plan}
 use Rattle.ledger.specs.declared.Timer.{Timer}
 use Rattle.ledger.specs.declared.Spot.{Spot}
+use Rattle.ledger.proofs.Picks.{pick_both}
 use Rattle.pool.specs.Mixing.{Pool, mix}
 use Rattle.pool.specs.Extracting.{Extract, extract}
 use Rattle.pool.proofs.Extracted.{laws}
@@ -38,6 +39,10 @@ use Rattle.keeper.proofs.Same.{same}
 use Rattle.keeper.proofs.Refusals.{demand_1}
 use Rattle.steps.specs.Promise.{left, over, leaves}
 use Rattle.steps.proofs.Accepted.{any_timer, Feeds, EventPlan, InterruptPlan, FedPlan, WritePlan, ReadPlan, BlockingPlan}
+
+-- ---- a pool that is lent: its words and its spot are the record's
+pub lent_as : (xs ws : List ℕ) (u s t : Spot) → xs ≡ ws → u ≡ s → s ≡ t → ◌≡◌ {A = Pool} (record { words = xs; spot = u }) (record { words = ws; spot = t })
+lent_as xs ws u s t e f h = λ i. record { words = e i; spot = (f ∙ h) i }
 
 -- ---- the plan
 -- a plan is the one at a record. Which record is then told by the type
@@ -83,6 +88,31 @@ pub decided : (k : Keeper) (c : PublicCall) (others : Bool) (p : Plan)
     → Untimed c → Others k others → p ≡ decide others k.ledger fresh_timer c → Planned k c p
 decided k c others p e eo ep = record { is = ep ∙ ap (λ (o : Bool). decide o k.ledger fresh_timer c) eo ∙ any_timer (view k) c (e k.ledger _ _) }
 
+-- ---- a plan's ledger has the spots that the record's has
+pub record SameSpots (l : Ledger) (p : Plan) : Type 0 where
+  pub input : p.ledger.input.spot ≡ l.input.spot
+  pub blocking : p.ledger.blocking.spot ≡ l.blocking.spot
+
+still_there : (l : Ledger) (t : Timer) (c : PublicCall) → SameSpots l (plan_call l t c)
+unfolding plan_call plan_event plan_interrupt plan_write plan_seed plan_read plan_blocking_read feed
+still_there l t (event device now value) = pick_both (SameSpots l) _ (record { input = refl; blocking = refl }) (pick_both (SameSpots l) _ (record { input = refl; blocking = refl }) (record { input = refl; blocking = refl }))
+still_there l t (interrupt now number) = pick_both (SameSpots l) _ (record { input = refl; blocking = refl }) (record { input = refl; blocking = refl })
+still_there l t (write len) = pick_both (SameSpots l) _ (record { input = refl; blocking = refl }) (record { input = refl; blocking = refl })
+still_there l t (seed now len credit) = pick_both (SameSpots l) _ (record { input = refl; blocking = refl }) (pick_both (SameSpots l) _ (record { input = refl; blocking = refl }) (record { input = refl; blocking = refl }))
+still_there l t (read now len) = pick_both (SameSpots l) _ (record { input = refl; blocking = refl }) (pick_both (SameSpots l) _ (record { input = refl; blocking = refl }) (pick_both (SameSpots l) _ (record { input = refl; blocking = refl }) (record { input = refl; blocking = refl })))
+still_there l t (blocking_read len) = pick_both (SameSpots l) _ (record { input = refl; blocking = refl }) (pick_both (SameSpots l) _ (record { input = refl; blocking = refl }) (pick_both (SameSpots l) _ (record { input = refl; blocking = refl }) (record { input = refl; blocking = refl })))
+
+pub spots : (others : Bool) (l : Ledger) (t : Timer) (c : PublicCall) (p : Plan) → p ≡ decide others l t c → SameSpots l p
+unfolding decide
+spots others l t c p e = subst (SameSpots l) (sym e) (pick_both (SameSpots l) _ (still_there l t c) (record { input = refl; blocking = refl }))
+
+-- the ledger with the input pool's spot moved on
+abbrev pub moved_on : Spot → Ledger → Ledger
+moved_on s l = with_input (placing s l.input) l
+
+moved_spots : (k : Keeper) (c : PublicCall) (p : Plan) → Planned k c p → (u : Spot) → moved_on u p.ledger ≡ with_spots u k.ledger.blocking.spot p.ledger
+moved_spots k c p e u = ap (λ (s : Spot). with_blocking (placing s p.ledger.blocking) (moved_on u p.ledger)) (spots _ _ _ _ p e.is).blocking
+
 -- ---- a refusal
 pub refusal : (k : Keeper) (c : Call) (room : List ℕ) (p : Plan) → Planned k (public c) p → (p.number ≡ 0 → ⊥)
     → left k (bare p.number) room ≡ leaves k c room
@@ -120,30 +150,20 @@ parts : {l m : Ledger} {ts us : Timers} {i j b d f g x y : List ℕ} {a : Answer
 parts {a = a} el et ei eb ef eg er = λ n. left (keeper_of (el n) (et n) (ei n) (eb n) (ef n) (eg n)) a (er n)
 
 -- a pool of 128 words has the input pool's shape, one of 32 the blocking pool's
-shape_128 : (n : ℕ) → n ≡ input_words → shape_of n ≡ input_shape
+shape_128 : shape_of input_words ≡ input_shape
 unfolding shape_of pick
-shape_128 n e = rw e refl
+shape_128 = refl
 
-shape_32 : (n : ℕ) → n ≡ blocking_words → shape_of n ≡ blocking_shape
+shape_32 : shape_of blocking_words ≡ blocking_shape
 unfolding shape_of pick
-shape_32 n e = rw e refl
+shape_32 = refl
 
--- bytes mixed into the input pool
-mixed : (ws xs : List ℕ) (s u : Spot) (bs : List ℕ) → length ws ≡ input_words
-    → ◌≡◌ {A = Pool} (record { words = xs; spot = u }) (mix (shape_of (length ws)) (record { words = ws; spot = s }) bs)
-    → ◌≡◌ {A = Pool} (record { words = xs; spot = u }) (mix input_shape (record { words = ws; spot = s }) bs)
-mixed ws xs s u bs h e = e ∙ ap (λ (sh : Shape). mix sh (record { words = ws; spot = s }) bs) (shape_128 (length ws) h)
+-- bytes mixed into a pool that is lent, and what is taken from one
+mixed : (v w q : Pool) (bs : List ℕ) → v ≡ w → q ≡ mix (shape_of input_words) v bs → q ≡ mix input_shape w bs
+mixed v w q bs e m = m ∙ ap₂ (λ (sh : Shape) (x : Pool). mix sh x bs) shape_128 e
 
--- it keeps its length
-pub mixed_128 : (ws xs : List ℕ) (s u : Spot) (bs : List ℕ) → length ws ≡ input_words
-    → ◌≡◌ {A = Pool} (record { words = xs; spot = u }) (mix (shape_of (length ws)) (record { words = ws; spot = s }) bs)
-    → length xs ≡ input_words
-mixed_128 ws xs s u bs h e = ap (λ (q : Pool). length q.words) e ∙ (laws (shape_of (length ws))).mix-words (record { words = ws; spot = s }) bs ∙ h
-
--- what a reseed makes of a pool, given as words and spot, or of one that equals it
-reseeded : (ws : List ℕ) (s : Spot) (q : Pool) (t : ℕ) → length ws ≡ input_words → ◌≡◌ {A = Pool} (record { words = ws; spot = s }) q
-    → extract (shape_of (length ws)) t (record { words = ws; spot = s }) ≡ extract input_shape t q
-reseeded ws s q t h e = ap₂ (λ (sh : Shape) (r : Pool). extract sh t r) (shape_128 (length ws) h) e
+taken_of : (q w : Pool) (t : ℕ) → q ≡ w → extract (shape_of input_words) t q ≡ extract input_shape t w
+taken_of q w t e = ap₂ (λ (sh : Shape) (x : Pool). extract sh t x) shape_128 e
 
 -- a timer that is kept, and one that is not
 kept_on : (p : Plan) (d : ℕ) (ts : Timers) → p.keeps ≡ true → timers_after d p ts ≡ kept d p.timer ts
@@ -165,24 +185,22 @@ event_takes : (p : Plan) (k : Keeper) (device now stamp value : ℕ) → p.feeds
 unfolding pick
 event_takes p k device now stamp value e = rw e refl
 
-pub event-done : (k : Keeper) (device now stamp value : ℕ) (p : Plan) (ts : Timers) (xs ys : List ℕ) (s u : Spot) (g : List ℕ)
-    → let e = extract (shape_of (length xs)) p.reseed (record { words = xs; spot = s }) in
-    Planned k (event device now value) p → EventPlan device p → length k.input ≡ input_words
+pub event-done : (k : Keeper) (device now stamp value : ℕ) (p : Plan) (ts : Timers) (v q r : Pool) (g : List ℕ)
+    → let e = extract (shape_of input_words) p.reseed q in
+    Planned k (event device now value) p → EventPlan device p
     → ts ≡ kept device p.timer (timers_in k)
-    → ◌≡◌ {A = Pool} (record { words = xs; spot = s }) (mix (shape_of (length k.input)) (input_pool k) (event_bytes stamp now value))
-    → ys ≡ e.pool.words → u ≡ e.pool.spot → g ≡ onto_key e.bytes k.generator
-    → left (keeper_of (with_spots u k.ledger.blocking.spot p.ledger) ts ys k.blocking k.fast g) (answer_of p) []
+    → v ≡ input_pool k → q ≡ mix (shape_of input_words) v (event_bytes stamp now value) → r ≡ e.pool → g ≡ onto_key e.bytes k.generator
+    → left (keeper_of (moved_on r.spot p.ledger) ts r.words k.blocking k.fast g) (answer_of p) []
     ≡ leaves k (device_event device now stamp value) []
-event-done k device now stamp value p ts xs ys s u g ep sh hw et em ey eu eg =
+event-done k device now stamp value p ts v q r g ep sh et ev em er eg =
     let c = device_event device now stamp value in
-    let q = mix input_shape (input_pool k) (event_bytes stamp now value) in
-    let r = reseeded xs s q p.reseed (mixed_128 k.input xs _ s _ hw em) (mixed k.input xs _ s _ hw em) ∙ sym (event_takes p k device now stamp value sh.feeds) in
-    parts (ap (λ (v : Spot). with_spots v k.ledger.blocking.spot p.ledger) (eu ∙ ap (λ (e : Extract). e.pool.spot) r))
+    let t = taken_of q _ p.reseed (mixed v _ q _ ev em) ∙ sym (event_takes p k device now stamp value sh.feeds) in
+    parts (moved_spots k _ p ep r.spot ∙ ap (λ (v : Spot). with_spots v k.ledger.blocking.spot p.ledger) (ap (λ (x : Pool). x.spot) er ∙ ap (λ (e : Extract). e.pool.spot) t))
     (et ∙ sym (kept_on p device (timers_in k) sh.keeps))
-    (ey ∙ ap (λ (e : Extract). e.pool.words) r)
+    (ap (λ (x : Pool). x.words) er ∙ ap (λ (e : Extract). e.pool.words) t)
     refl
     (sym (unstirred c p k sh.stirs))
-    (eg ∙ ap (λ (e : Extract). onto_key e.bytes k.generator) r)
+    (eg ∙ ap (λ (e : Extract). onto_key e.bytes k.generator) t)
     refl
     ∙ sym (accepted k c [] p ep ∙ fed c p k [] sh.rest_still)
 
@@ -196,13 +214,15 @@ interrupt_stirs p k now number stamp address e = rw e refl
 pub interrupt-stays : (k : Keeper) (now number stamp address : ℕ) (p : Plan) (fast : List ℕ)
     → Planned k (interrupt now number) p → InterruptPlan p → p.feeds ≡ false
     → fast ≡ stirred now number stamp address k.fast
-    → left (keeper_of (with_spots k.ledger.input.spot k.ledger.blocking.spot p.ledger) (timers_in k) k.input k.blocking fast k.generator) (answer_of p) []
+    → left (keeper_of p.ledger (timers_in k) k.input k.blocking fast k.generator) (answer_of p) []
     ≡ leaves k (interrupted now number stamp address) []
 unfolding xor_at bytes_words
 interrupt-stays k now number stamp address p fast ep sh eq ef =
     let c = interrupted now number stamp address in
     let r = sym (untouched c p k eq (sh.unfed eq)) in
-    parts (ap (λ (e : Extract). with_spots e.pool.spot k.ledger.blocking.spot p.ledger) r)
+    let still : p.ledger ≡ with_spots k.ledger.input.spot k.ledger.blocking.spot p.ledger =
+    ap (λ (s : Spot). moved_on s p.ledger) (spots _ _ _ _ p ep.is).input ∙ moved_spots k _ p ep k.ledger.input.spot in
+    parts (still ∙ ap (λ (e : Extract). with_spots e.pool.spot k.ledger.blocking.spot p.ledger) r)
     (sym (kept_off p 0 (timers_in k) sh.keeps))
     (ap (λ (e : Extract). e.pool.words) r)
     refl
@@ -218,24 +238,23 @@ interrupt_takes : (p : Plan) (k : Keeper) (now number stamp address : ℕ) → p
 unfolding pick
 interrupt_takes p k now number stamp address e f = rw (e, f) refl
 
-pub interrupt-done : (k : Keeper) (now number stamp address : ℕ) (p : Plan) (fast xs ys : List ℕ) (s u : Spot) (g : List ℕ)
-    → let e = extract (shape_of (length xs)) p.reseed (record { words = xs; spot = s }) in
-    Planned k (interrupt now number) p → InterruptPlan p → p.feeds ≡ true → length k.input ≡ input_words
+pub interrupt-done : (k : Keeper) (now number stamp address : ℕ) (p : Plan) (fast : List ℕ) (v q r : Pool) (g : List ℕ)
+    → let e = extract (shape_of input_words) p.reseed q in
+    Planned k (interrupt now number) p → InterruptPlan p → p.feeds ≡ true
     → fast ≡ stirred now number stamp address k.fast
-    → ◌≡◌ {A = Pool} (record { words = xs; spot = s }) (mix (shape_of (length k.input)) (input_pool k) (words_bytes fast))
-    → ys ≡ e.pool.words → u ≡ e.pool.spot → g ≡ onto_key e.bytes k.generator
-    → left (keeper_of (with_spots u k.ledger.blocking.spot p.ledger) (timers_in k) ys k.blocking fast g) (answer_of p) []
+    → v ≡ input_pool k → q ≡ mix (shape_of input_words) v (words_bytes fast) → r ≡ e.pool → g ≡ onto_key e.bytes k.generator
+    → left (keeper_of (moved_on r.spot p.ledger) (timers_in k) r.words k.blocking fast g) (answer_of p) []
     ≡ leaves k (interrupted now number stamp address) []
-interrupt-done k now number stamp address p fast xs ys s u g ep sh es hw ef em ey eu eg =
+interrupt-done k now number stamp address p fast v q r g ep sh es ef ev em er eg =
     let c = interrupted now number stamp address in
-    let m = mixed k.input xs _ s _ hw em ∙ ap (λ (f : List ℕ). mix input_shape (input_pool k) (words_bytes f)) ef in
-    let r = reseeded xs s _ p.reseed (mixed_128 k.input xs _ s _ hw em) m ∙ sym (interrupt_takes p k now number stamp address sh.stirs es) in
-    parts (ap (λ (v : Spot). with_spots v k.ledger.blocking.spot p.ledger) (eu ∙ ap (λ (e : Extract). e.pool.spot) r))
+    let m = mixed v _ q _ ev em ∙ ap (λ (f : List ℕ). mix input_shape (input_pool k) (words_bytes f)) ef in
+    let t = taken_of q _ p.reseed m ∙ sym (interrupt_takes p k now number stamp address sh.stirs es) in
+    parts (moved_spots k _ p ep r.spot ∙ ap (λ (v : Spot). with_spots v k.ledger.blocking.spot p.ledger) (ap (λ (x : Pool). x.spot) er ∙ ap (λ (e : Extract). e.pool.spot) t))
     (sym (kept_off p 0 (timers_in k) sh.keeps))
-    (ey ∙ ap (λ (e : Extract). e.pool.words) r)
+    (ap (λ (x : Pool). x.words) er ∙ ap (λ (e : Extract). e.pool.words) t)
     refl
     (ef ∙ sym (interrupt_stirs p k now number stamp address sh.stirs))
-    (eg ∙ ap (λ (e : Extract). onto_key e.bytes k.generator) r)
+    (eg ∙ ap (λ (e : Extract). onto_key e.bytes k.generator) t)
     refl
     ∙ sym (accepted k c [] p ep ∙ fed c p k [] sh.rest_still)
 
@@ -245,22 +264,21 @@ seed_takes : (p : Plan) (k : Keeper) (now : ℕ) (bs : List ℕ) (credit : ℕ) 
 unfolding pick
 seed_takes p k now bs credit e = rw e refl
 
-pub seed-done : (k : Keeper) (now : ℕ) (bs : List ℕ) (credit : ℕ) (p : Plan) (xs ys : List ℕ) (s u : Spot) (g : List ℕ)
-    → let e = extract (shape_of (length xs)) p.reseed (record { words = xs; spot = s }) in
-    Planned k (seed now (length bs) credit) p → FedPlan p → length k.input ≡ input_words
-    → ◌≡◌ {A = Pool} (record { words = xs; spot = s }) (mix (shape_of (length k.input)) (input_pool k) bs)
-    → ys ≡ e.pool.words → u ≡ e.pool.spot → g ≡ onto_key e.bytes k.generator
-    → left (keeper_of (with_spots u k.ledger.blocking.spot p.ledger) (timers_in k) ys k.blocking k.fast g) (answer_of p) []
+pub seed-done : (k : Keeper) (now : ℕ) (bs : List ℕ) (credit : ℕ) (p : Plan) (v q r : Pool) (g : List ℕ)
+    → let e = extract (shape_of input_words) p.reseed q in
+    Planned k (seed now (length bs) credit) p → FedPlan p
+    → v ≡ input_pool k → q ≡ mix (shape_of input_words) v bs → r ≡ e.pool → g ≡ onto_key e.bytes k.generator
+    → left (keeper_of (moved_on r.spot p.ledger) (timers_in k) r.words k.blocking k.fast g) (answer_of p) []
     ≡ leaves k (seeded_with now bs credit) []
-seed-done k now bs credit p xs ys s u g ep sh hw em ey eu eg =
+seed-done k now bs credit p v q r g ep sh ev em er eg =
     let c = seeded_with now bs credit in
-    let r = reseeded xs s _ p.reseed (mixed_128 k.input xs _ s _ hw em) (mixed k.input xs _ s _ hw em) ∙ sym (seed_takes p k now bs credit sh.feeds) in
-    parts (ap (λ (v : Spot). with_spots v k.ledger.blocking.spot p.ledger) (eu ∙ ap (λ (e : Extract). e.pool.spot) r))
+    let t = taken_of q _ p.reseed (mixed v _ q _ ev em) ∙ sym (seed_takes p k now bs credit sh.feeds) in
+    parts (moved_spots k _ p ep r.spot ∙ ap (λ (v : Spot). with_spots v k.ledger.blocking.spot p.ledger) (ap (λ (x : Pool). x.spot) er ∙ ap (λ (e : Extract). e.pool.spot) t))
     (sym (kept_off p 0 (timers_in k) sh.keeps))
-    (ey ∙ ap (λ (e : Extract). e.pool.words) r)
+    (ap (λ (x : Pool). x.words) er ∙ ap (λ (e : Extract). e.pool.words) t)
     refl
     (sym (unstirred c p k sh.stirs))
-    (eg ∙ ap (λ (e : Extract). onto_key e.bytes k.generator) r)
+    (eg ∙ ap (λ (e : Extract). onto_key e.bytes k.generator) t)
     refl
     ∙ sym (accepted k c [] p ep ∙ fed c p k [] sh.rest_still)
 
@@ -269,19 +287,19 @@ write_takes : (p : Plan) (k : Keeper) (bs : List ℕ) → WritePlan p → for_re
 unfolding pick
 write_takes p k bs sh = rw sh.fed.feeds (none_taken input_shape p.reseed _ sh.reseed)
 
-pub write_done : (k : Keeper) (bs : List ℕ) (p : Plan) (xs : List ℕ) (s : Spot)
-    → Planned k (write (length bs)) p → WritePlan p → length k.input ≡ input_words
-    → ◌≡◌ {A = Pool} (record { words = xs; spot = s }) (mix (shape_of (length k.input)) (input_pool k) bs)
-    → left (keeper_of (with_spots s k.ledger.blocking.spot p.ledger) (timers_in k) xs k.blocking k.fast k.generator) (answer_of p) []
+pub write_done : (k : Keeper) (bs : List ℕ) (p : Plan) (v q : Pool)
+    → Planned k (write (length bs)) p → WritePlan p
+    → v ≡ input_pool k → q ≡ mix (shape_of input_words) v bs
+    → left (keeper_of (moved_on q.spot p.ledger) (timers_in k) q.words k.blocking k.fast k.generator) (answer_of p) []
     ≡ leaves k (written bs) []
 unfolding xor_at bytes_words
-write_done k bs p xs s ep sh hw em =
+write_done k bs p v q ep sh ev em =
     let c = written bs in
-    let m = mixed k.input xs _ s _ hw em in
+    let m = mixed v _ q _ ev em in
     let r = write_takes p k bs sh in
-    parts (ap (λ (v : Spot). with_spots v k.ledger.blocking.spot p.ledger) (ap (λ (q : Pool). q.spot) m ∙ sym (ap (λ (e : Extract). e.pool.spot) r)))
+    parts (moved_spots k _ p ep q.spot ∙ ap (λ (v : Spot). with_spots v k.ledger.blocking.spot p.ledger) (ap (λ (x : Pool). x.spot) m ∙ sym (ap (λ (e : Extract). e.pool.spot) r)))
     (sym (kept_off p 0 (timers_in k) sh.fed.keeps))
-    (ap (λ (q : Pool). q.words) m ∙ sym (ap (λ (e : Extract). e.pool.words) r))
+    (ap (λ (x : Pool). x.words) m ∙ sym (ap (λ (e : Extract). e.pool.words) r))
     refl
     (sym (unstirred c p k sh.fed.stirs))
     (sym (ap (λ (e : Extract). onto_key e.bytes k.generator) r))
@@ -298,24 +316,24 @@ read_takes p k now len e = rw (e, (laws input_shape).mix_none (input_pool k)) re
 filled : (room bs : List ℕ) → length bs ≡ length room → room_after room bs ≡ bs
 filled room bs e = ap (λ (t : List ℕ). bs ++ t) (drop_of_length-le room {i = length bs} (omega (arith, e))) ∙ append-nil bs
 
-pub read_done : (k : Keeper) (now : ℕ) (room : List ℕ) (p : Plan) (xs : List ℕ) (u : Spot) (g h out : List ℕ)
-    → let e = extract (shape_of (length k.input)) p.reseed (input_pool k) in
-    Planned k (read now (length room)) p → ReadPlan (length room) p → length k.input ≡ input_words → length k.generator ≡ 16
-    → xs ≡ e.pool.words → u ≡ e.pool.spot → g ≡ onto_key e.bytes k.generator
+pub read_done : (k : Keeper) (now : ℕ) (room : List ℕ) (p : Plan) (v r : Pool) (g h out : List ℕ)
+    → let e = extract (shape_of input_words) p.reseed v in
+    Planned k (read now (length room)) p → ReadPlan (length room) p → length k.generator ≡ 16
+    → v ≡ input_pool k → r ≡ e.pool → g ≡ onto_key e.bytes k.generator
     → out ≡ (generated (length room) g).bytes → h ≡ (generated (length room) g).generator
-    → left (keeper_of (with_spots u k.ledger.blocking.spot p.ledger) (timers_in k) xs k.blocking k.fast h) (answer_of p) out
+    → left (keeper_of (moved_on r.spot p.ledger) (timers_in k) r.words k.blocking k.fast h) (answer_of p) out
     ≡ leaves k (generator_read now (length room)) room
-read_done k now room p xs u g h out ep sh hw hg ex eu eg eo eh =
+read_done k now room p v r g h out ep sh hg ev er eg eo eh =
     let c = generator_read now (length room) in
-    let r = reseeded k.input k.ledger.input.spot (input_pool k) p.reseed hw refl ∙ sym (read_takes p k now (length room) sh.feeds) in
-    let key : g ≡ onto_key (for_reseed c p k).bytes k.generator = eg ∙ ap (λ (e : Extract). onto_key e.bytes k.generator) r in
+    let t = taken_of v _ p.reseed ev ∙ sym (read_takes p k now (length room) sh.feeds) in
+    let key : g ≡ onto_key (for_reseed c p k).bytes k.generator = eg ∙ ap (λ (e : Extract). onto_key e.bytes k.generator) t in
     let made : generated (length room) g ≡ from_generator c p k = ap₂ generated (sym sh.whole) key in
     let long : length g ≡ 16 = ap length eg ∙ key_length _ k.generator ∙ hg in
     let all-of-it : length (from_generator c p k).bytes ≡ p.stream = ap (λ (s : Stream). length s.bytes) (sym made) ∙ generated-length (length room) g long ∙ sym sh.whole in
     let full : room_after room (generated (length room) g).bytes ≡ (generated (length room) g).bytes = filled room _ (generated-length (length room) g long) in
-    parts (ap (λ (v : Spot). with_spots v k.ledger.blocking.spot p.ledger) (eu ∙ ap (λ (e : Extract). e.pool.spot) r))
+    parts (moved_spots k _ p ep r.spot ∙ ap (λ (v : Spot). with_spots v k.ledger.blocking.spot p.ledger) (ap (λ (x : Pool). x.spot) er ∙ ap (λ (e : Extract). e.pool.spot) t))
     (sym (kept_off p 0 (timers_in k) sh.keeps))
-    (ex ∙ ap (λ (e : Extract). e.pool.words) r)
+    (ap (λ (x : Pool). x.words) er ∙ ap (λ (e : Extract). e.pool.words) t)
     refl
     (sym (unstirred c p k sh.stirs))
     (eh ∙ ap (λ (s : Stream). s.generator) made)
@@ -329,31 +347,28 @@ unfolding pick
 blocking_takes p k len e z =
     rw (e, (laws input_shape).mix_none (input_pool k)) (ap (λ (x : Extract). extract input_shape p.transfer x.pool) (none_taken input_shape p.reseed (input_pool k) z))
 
-pub blocking_done : (k : Keeper) (room : List ℕ) (p : Plan) (xs ys zs : List ℕ) (u v w : Spot) (out : List ℕ)
-    → let t = extract (shape_of (length k.input)) p.transfer (input_pool k) in
-    let d = extract (shape_of (length ys)) p.deliver (record { words = ys; spot = v }) in
+pub blocking_done : (k : Keeper) (room : List ℕ) (p : Plan) (v w q r s : Pool) (out : List ℕ)
+    → let t = extract (shape_of input_words) p.transfer v in
+    let d = extract (shape_of blocking_words) p.deliver r in
     Planned k (blocking_read (length room)) p → BlockingPlan (length room) p
-    → length k.input ≡ input_words → length k.blocking ≡ blocking_words
-    → xs ≡ t.pool.words → u ≡ t.pool.spot
-    → ◌≡◌ {A = Pool} (record { words = ys; spot = v }) (mix (shape_of (length k.blocking)) (blocking_pool k) t.bytes)
-    → zs ≡ d.pool.words → w ≡ d.pool.spot → out ≡ d.bytes ++ drop p.deliver room
-    → left (keeper_of (with_spots u w p.ledger) (timers_in k) xs zs k.fast k.generator) (answer_of p) out
+    → v ≡ input_pool k → w ≡ blocking_pool k
+    → q ≡ t.pool → r ≡ mix (shape_of blocking_words) w t.bytes → s ≡ d.pool → out ≡ d.bytes ++ drop p.deliver room
+    → left (keeper_of (with_spots q.spot s.spot p.ledger) (timers_in k) q.words s.words k.fast k.generator) (answer_of p) out
     ≡ leaves k (blocking_read_of (length room)) room
-blocking_done k room p xs ys zs u v w out ep sh hi hb ex eu em ez ew eo =
+blocking_done k room p v w q r s out ep sh ev ew eq er es eo =
     let c = blocking_read_of (length room) in
-    let r : extract (shape_of (length k.input)) p.transfer (input_pool k) ≡ for_transfer c p k =
-    reseeded k.input k.ledger.input.spot (input_pool k) p.transfer hi refl ∙ sym (blocking_takes p k (length room) sh.feeds sh.reseed) in
-    let m : ◌≡◌ {A = Pool} (record { words = ys; spot = v }) (mix blocking_shape (blocking_pool k) (for_transfer c p k).bytes) =
-    em ∙ ap₂ (λ (s : Shape) (e : Extract). mix s (blocking_pool k) e.bytes) (shape_32 (length k.blocking) hb) r in
-    let long : length ys ≡ blocking_words = ap (λ (q : Pool). length q.words) m ∙ (laws blocking_shape).mix-words (blocking_pool k) _ ∙ hb in
-    let d : extract (shape_of (length ys)) p.deliver (record { words = ys; spot = v }) ≡ for_delivery c p k =
-    ap₂ (λ (s : Shape) (q : Pool). extract s p.deliver q) (shape_32 (length ys) long) m in
+    let t : extract (shape_of input_words) p.transfer v ≡ for_transfer c p k =
+    taken_of v _ p.transfer ev ∙ sym (blocking_takes p k (length room) sh.feeds sh.reseed) in
+    let m : r ≡ mix blocking_shape (blocking_pool k) (for_transfer c p k).bytes =
+    er ∙ (λ i. mix (shape_32 i) (ew i) (t i).bytes) in
+    let d : extract (shape_of blocking_words) p.deliver r ≡ for_delivery c p k =
+    ap₂ (λ (s : Shape) (q : Pool). extract s p.deliver q) shape_32 m in
     let front : room_after room (for_delivery c p k).bytes ≡ (for_delivery c p k).bytes ++ drop p.deliver room =
     in_front_lem room (for_delivery c p k).bytes p.deliver ((laws blocking_shape).take-length p.deliver _) in
-    parts (ap₂ (λ (a b : Spot). with_spots a b p.ledger) (eu ∙ ap (λ (e : Extract). e.pool.spot) r) (ew ∙ ap (λ (e : Extract). e.pool.spot) d))
+    parts (ap₂ (λ (a b : Spot). with_spots a b p.ledger) (ap (λ (x : Pool). x.spot) eq ∙ ap (λ (e : Extract). e.pool.spot) t) (ap (λ (x : Pool). x.spot) es ∙ ap (λ (e : Extract). e.pool.spot) d))
     (sym (kept_off p 0 (timers_in k) sh.keeps))
-    (ex ∙ ap (λ (e : Extract). e.pool.words) r)
-    (ez ∙ ap (λ (e : Extract). e.pool.words) d)
+    (ap (λ (x : Pool). x.words) eq ∙ ap (λ (e : Extract). e.pool.words) t)
+    (ap (λ (x : Pool). x.words) es ∙ ap (λ (e : Extract). e.pool.words) d)
     (sym (unstirred c p k sh.stirs))
     refl
     (eo ∙ ap (λ (e : Extract). e.bytes ++ drop p.deliver room) d ∙ sym front)

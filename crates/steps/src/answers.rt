@@ -1,56 +1,46 @@
-// What a call gives back.
+// What a refusal gives back.
 ghost use Rattle.std.specs.Prelude.{◌≡◌};
-ghost use Rattle.ledger.specs.Marks.{placing, with_spots};
-ghost use Rattle.ledger.specs.Plans.{Small, answer_of, bare};
+ghost use Rattle.ledger.specs.Refusals.{number_of};
+ghost use Rattle.ledger.specs.Plans.{bare};
 
-use decide::answer_of;
-use ledger::{Answer, Gauge, Ledger, Plan, Spot};
-
-// The ledger and the answer when a call is over.
-#[derive(Drop)]
-pub struct Done {
-    pub ledger: Ledger,
-    pub answer: Answer,
-}
+use keeper::Keeper;
+use ledger::{Answer, Ledger, Refusal};
 
 // A number and no more: nothing delivered, no work, nothing added.
-pub fn answered(l: Ledger, number: u32) -> Done
-    ensures { result ≡ record { ledger = l; answer = bare number } }
+pub fn bare(number: u32) -> Answer
+    ensures { result ≡ bare number }
 {
-    let a = Answer {
-        number: number,
+    Answer {
+        number,
         delivered: 0,
         blocks: 0,
         compressions: 0,
         added: 0,
-    };
-    Done {
-        ledger: l,
-        answer: a,
     }
 }
 
-// A pool whose next byte goes to a spot.
-fn placing(s: Spot, g: Gauge) -> Gauge
-    ensures { result ≡ placing s g }
+// The ledger is stored as it is. include/nk.h says that a refused call stores it back as it found it, so that a record which cannot be written is
+// noticed at the first call. A call of its own: the compiler would leave out what it sees to change nothing.
+#[inline(never)]
+fn store(ledger: &mut Ledger, l: Ledger)
+    ensures { ledger.new ≡ l }
 {
-    Gauge {
-        count: g.count,
-        spot: s,
-    }
+    *ledger = l;
 }
 
-// A plan that was carried out, with the spots that the pools then have.
-pub fn carried_out(p: Plan, i: Spot, b: Spot) -> Done
-    requires { Small p }
-    ensures { result ≡ record { ledger = with_spots i b p.ledger; answer = answer_of p } }
+// The record stays as it is, and is stored back.
+pub fn put_back(k: &mut Keeper)
+    ensures { k.new ≡ k.old }
 {
-    let a = answer_of(p);
-    let mut l = p.ledger;
-    l.input = placing(i, l.input);
-    l.blocking = placing(b, l.blocking);
-    Done {
-        ledger: l,
-        answer: a,
-    }
+    let l = k.ledger;
+    store(&mut k.ledger, l);
+}
+
+// A refusal: its number and no more.
+pub fn refused(k: &mut Keeper, why: Refusal) -> Answer
+    ensures kept { k.new ≡ k.old }
+    ensures value { result ≡ bare (number_of why) }
+{
+    put_back(k);
+    bare(why.number())
 }

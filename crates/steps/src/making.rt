@@ -4,43 +4,34 @@ ghost use Rattle.words.specs.Bytes.{bytes_words};
 ghost use Rattle.ledger.specs.Sizes.{start_bytes};
 ghost use Rattle.ledger.specs.Marks.{fresh_ledger};
 ghost use Rattle.ledger.specs.Range.{fixed_words};
-ghost use Rattle.steps.specs.Promise.{both, lent, left, leaves_made};
+ghost use Rattle.steps.specs.Promise.{blank, left, leaves_made};
 
-use crate::answers::{Done, answered};
-use ledger::numbers::{DONE, START_NOT_48};
+use crate::answers::{bare, refused};
+use keeper::Keeper;
+use ledger::refusals::DONE;
 use ledger::sizes::{
     BLOCKING_WORDS, DEVICES, FAST_WORDS, GENERATOR_WORDS, INPUT_WORDS, START_BYTES,
 };
-use ledger::{Gauge, Ledger, Seeding, Spill, Spot};
+use ledger::{Answer, Ledger, Refusal};
 use words::u32_of_bytes;
 
 // All zero, unseeded.
 pub fn fresh_ledger() -> Ledger
     ensures { result ≡ fresh_ledger }
 {
-    let s = Spot { at: 0, turn: 0 };
-    let g = Gauge { count: 0, spot: s };
-    let spill = Spill { tally: 0, clock: 0 };
-    let seeding = Seeding { mark: 0, clock: 0 };
-    Ledger {
-        input: g,
-        blocking: g,
-        value: 0,
-        spill: spill,
-        seeding: seeding,
-    }
+    Ledger::default()
 }
 
-// The word of the start bytes from k on.
+// A word of the start bytes, which are taken by fours.
 fn start_word(start: &[u8], i: usize) -> u32
     requires { (length start.now ≡ start_bytes) × (i < 12) }
     ensures { result ≡ get_or (bytes_words start.now) i 0 }
 {
-    let k = 4 * i;
-    u32_of_bytes([start[k], start[k + 1], start[k + 2], start[k + 3]])
+    let (fours, _) = start.as_chunks::<4>();
+    u32_of_bytes(fours[i])
 }
 
-// The generator's words: four that are fixed, then the start bytes.
+// The generator's words: four that are fixed, then the start bytes. Written out, since each place is one that the paper names.
 fn first_words(start: &[u8]) -> [u32; GENERATOR_WORDS]
     requires { length start.now ≡ start_bytes }
     ensures { result ≡ fixed_words ++ bytes_words start.now }
@@ -65,32 +56,39 @@ fn first_words(start: &[u8]) -> [u32; GENERATOR_WORDS]
     ]
 }
 
+// A keeper that is all zero, unseeded: a record to make a keeper in, for a program that has none.
+pub fn fresh_keeper() -> Keeper
+    ensures { result ≡ blank }
+{
+    Keeper {
+        ledger: fresh_ledger(),
+        clocks: [0u32; DEVICES],
+        firsts: [0i64; DEVICES],
+        seconds: [0i64; DEVICES],
+        came: [0u8; DEVICES],
+        input: [0u32; INPUT_WORDS],
+        blocking: [0u32; BLOCKING_WORDS],
+        fast: [0u32; FAST_WORDS],
+        generator: [0u32; GENERATOR_WORDS],
+    }
+}
+
 // A keeper made of start bytes: 48 of them, or nothing is changed.
-pub fn make_on(
-    l: Ledger,
-    clocks: &mut [u32; DEVICES],
-    firsts: &mut [i64; DEVICES],
-    seconds: &mut [i64; DEVICES],
-    came: &mut [u8; DEVICES],
-    input: &mut [u32; INPUT_WORDS],
-    blocking: &mut [u32; BLOCKING_WORDS],
-    fast: &mut [u32; FAST_WORDS],
-    generator: &mut [u32; GENERATOR_WORDS],
-    start: &[u8],
-) -> Done
-    ensures { let k = lent l result.ledger (both clocks.old clocks.new) (both firsts.old firsts.new) (both seconds.old seconds.new) (both came.old came.new) (both input.old input.new) (both blocking.old blocking.new) (both fast.old fast.new) (both generator.old generator.new) in left k.exit result.answer [] ≡ leaves_made k.entry start.now }
+pub fn make_on(k: &mut Keeper, start: &[u8]) -> Answer
+    ensures { left k.new result [] ≡ leaves_made k.old start.now }
 {
     if start.len() != START_BYTES {
-        return answered(l, START_NOT_48);
+        return refused(k, Refusal::StartNot48);
     }
     // first, so that no start byte has to wait on the stack
-    *generator = first_words(start);
-    *clocks = [0u32; DEVICES];
-    *firsts = [0i64; DEVICES];
-    *seconds = [0i64; DEVICES];
-    *came = [0u8; DEVICES];
-    *input = [0u32; INPUT_WORDS];
-    *blocking = [0u32; BLOCKING_WORDS];
-    *fast = [0u32; FAST_WORDS];
-    answered(fresh_ledger(), DONE)
+    k.generator = first_words(start);
+    k.clocks = [0u32; DEVICES];
+    k.firsts = [0i64; DEVICES];
+    k.seconds = [0i64; DEVICES];
+    k.came = [0u8; DEVICES];
+    k.input = [0u32; INPUT_WORDS];
+    k.blocking = [0u32; BLOCKING_WORDS];
+    k.fast = [0u32; FAST_WORDS];
+    k.ledger = fresh_ledger();
+    bare(DONE)
 }

@@ -1,13 +1,14 @@
-// The range test of what the ledger does not hold. It is the public half's: of the generator only words 0 to 3 go there.
-ghost use Rattle.std.specs.Prelude.{◌≡◌, List, ℕ, length, take};
-ghost use Rattle.ledger.specs.Sizes.{devices};
-ghost use Rattle.ledger.specs.Timers.{timers_of};
+// What is decided from of a record besides its ledger. It is the public half's: of the generator only words 0 to 3 go there.
+ghost use Rattle.std.specs.Prelude.{◌≡◌, take};
 ghost use Rattle.ledger.specs.Range.{others_in_range};
+ghost use Rattle.keeper.specs.Record.{timers_in, device_timer};
 
+use keeper::Keeper;
+use ledger::Timer;
 use ledger::sizes::GENERATOR_WORDS;
 use reckon;
 
-// Words 0 to 3 of a generator.
+// Words 0 to 3 of a generator, as an array: the range test takes it by value.
 fn fixed_words(g: [u32; GENERATOR_WORDS]) -> [u32; 4]
     ensures { result ≡ take 4 g }
 {
@@ -15,16 +16,16 @@ fn fixed_words(g: [u32; GENERATOR_WORDS]) -> [u32; 4]
 }
 
 // All timers and the generator's fixed words are in range. The clocks have no say.
-pub fn others_in_range(
-    firsts: &[i64],
-    seconds: &[i64],
-    came: &[u8],
-    generator: &[u32; GENERATOR_WORDS],
-) -> bool
-    requires { (length firsts.now ≡ devices) × (length seconds.now ≡ devices) }
-    ensures { (clocks : List ℕ) → result ≡ others_in_range (timers_of clocks firsts.now seconds.now came.now) (take 4 generator.now) }
+pub fn others_in_range(k: &Keeper) -> bool
+    ensures { result ≡ others_in_range (timers_in k.now) (take 4 k.now.generator) }
 {
-    let g = *generator;
-    let w = fixed_words(g);
-    reckon::others_in_range(firsts, seconds, came, w)
+    let w = fixed_words(k.generator);
+    reckon::others_in_range(&k.firsts[..], &k.seconds[..], &k.came[..], w)
+}
+
+// The timer of a device; where there is no such device, what stands here is not used.
+pub fn device_timer(k: &Keeper, device: u32) -> Timer
+    ensures { result ≡ device_timer k.now device }
+{
+    reckon::timer_of(&k.clocks, &k.firsts, &k.seconds, &k.came, device)
 }

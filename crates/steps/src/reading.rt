@@ -1,65 +1,49 @@
 // The calls that take bytes: generator read and blocking read. The output room is lent, and its length is the read's.
-ghost use Rattle.std.specs.Prelude.{◌≡◌, List, [], ℕ, length};
+ghost use Rattle.std.specs.Prelude.{◌≡◌, length};
 ghost use Rattle.keeper.specs.Calls.{generator_read, blocking_read_of};
-ghost use Rattle.steps.specs.Promise.{Leaves, both, lent, still};
+ghost use Rattle.steps.specs.Promise.{left, leaves};
 
-use crate::answers::{Done, answered, carried_out};
+use crate::answers::refused;
 use crate::range::others_in_range;
-use decide::{decide_blocking_read, decide_read};
+use decide::{answer_of, decide_blocking_read, decide_read};
 use flows::{deliver, reseed, transfer};
 use generator::generate;
-use ledger::Ledger;
-use ledger::numbers::DONE;
-use ledger::sizes::{BLOCKING_WORDS, DEVICES, GENERATOR_WORDS, INPUT_WORDS};
+use keeper::Keeper;
+use ledger::Answer;
+use mixer::Pool;
 
 // A generator read.
-pub fn read_on(
-    l: Ledger,
-    firsts: &[i64; DEVICES],
-    seconds: &[i64; DEVICES],
-    came: &[u8; DEVICES],
-    input: &mut [u32; INPUT_WORDS],
-    generator: &mut [u32; GENERATOR_WORDS],
-    at: u32,
-    out: &mut [u8],
-) -> Done
-    ensures { (clocks blocking fast : List ℕ) → Leaves (lent l result.ledger (still clocks) (still firsts.now) (still seconds.now) (still came.now) (both input.old input.new) (still blocking) (still fast) (both generator.old generator.new)) result.answer (generator_read at (length out.old)) out.old out.new }
+pub fn read_on(k: &mut Keeper, at: u32, out: &mut [u8]) -> Answer
+    ensures { left k.new result out.new ≡ leaves k.old (generator_read at (length out.old)) out.old }
 {
-    let others = others_in_range(&firsts[..], &seconds[..], &came[..], generator);
-    let p = decide_read(others, l, at, out.len());
-    if p.number != DONE {
-        return answered(l, p.number);
-    }
-    let s = reseed(&mut input[..], l.input.spot, &mut generator[..], p.reseed);
-    generate(generator, out);
-    carried_out(p, s, l.blocking.spot)
+    let others = others_in_range(k);
+    let p = match decide_read(others, k.ledger, at, out.len()) {
+        Ok(p) => p,
+        Err(why) => return refused(k, why),
+    };
+    k.ledger = p.ledger;
+    let mut input = Pool::new(&mut k.input, k.ledger.input.spot);
+    reseed(&mut input, &mut k.generator, p.reseed);
+    k.ledger.input.spot = input.spot;
+    generate(&mut k.generator, out);
+    answer_of(p)
 }
 
 // A blocking read.
-pub fn blocking_read_on(
-    l: Ledger,
-    firsts: &[i64; DEVICES],
-    seconds: &[i64; DEVICES],
-    came: &[u8; DEVICES],
-    input: &mut [u32; INPUT_WORDS],
-    blocking: &mut [u32; BLOCKING_WORDS],
-    generator: &[u32; GENERATOR_WORDS],
-    out: &mut [u8],
-) -> Done
-    ensures { (clocks fast : List ℕ) → Leaves (lent l result.ledger (still clocks) (still firsts.now) (still seconds.now) (still came.now) (both input.old input.new) (both blocking.old blocking.new) (still fast) (still generator.now)) result.answer (blocking_read_of (length out.old)) out.old out.new }
+pub fn blocking_read_on(k: &mut Keeper, out: &mut [u8]) -> Answer
+    ensures { left k.new result out.new ≡ leaves k.old (blocking_read_of (length out.old)) out.old }
 {
-    let others = others_in_range(&firsts[..], &seconds[..], &came[..], generator);
-    let p = decide_blocking_read(others, l, out.len());
-    if p.number != DONE {
-        return answered(l, p.number);
-    }
-    let s = transfer(
-        &mut input[..],
-        l.input.spot,
-        &mut blocking[..],
-        l.blocking.spot,
-        p.transfer,
-    );
-    let b = deliver(&mut blocking[..], s.blocking, out, p.deliver);
-    carried_out(p, s.input, b)
+    let others = others_in_range(k);
+    let p = match decide_blocking_read(others, k.ledger, out.len()) {
+        Ok(p) => p,
+        Err(why) => return refused(k, why),
+    };
+    k.ledger = p.ledger;
+    let mut input = Pool::new(&mut k.input, k.ledger.input.spot);
+    let mut blocking = Pool::new(&mut k.blocking, k.ledger.blocking.spot);
+    transfer(&mut input, &mut blocking, p.transfer);
+    deliver(&mut blocking, out, p.deliver);
+    k.ledger.input.spot = input.spot;
+    k.ledger.blocking.spot = blocking.spot;
+    answer_of(p)
 }

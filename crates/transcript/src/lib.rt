@@ -9,7 +9,7 @@
 // digits, six spaces between them, one before the bytes, two digits for each byte and the newline; the last line asks for 15. A room that
 // is shorter is left as it was, and the answer is 0. `LONGEST_LINE` is enough for the most bytes that a record delivers.
 //
-// `text` has numbers and bytes as text, for other texts too; `lines` has the two kinds of lines.
+// `text` has a text that grows in a room, by numbers, bytes and letters, for other texts too; `lines` has the two kinds of lines.
 #![tactic(auto)]
 
 pub mod lines;

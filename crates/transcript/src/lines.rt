@@ -1,9 +1,9 @@
 // The lines of the transcript, each at the start of a room.
-ghost use Rattle.std.specs.Prelude.{◌≡◌, ◌≤◌, length};
-ghost use Rattle.transcript.specs.Text.{Put};
+ghost use Rattle.std.specs.Prelude.{◌≡◌};
+ghost use Rattle.transcript.specs.Writing.{Adds, AddsAtMost, HasRoom};
 ghost use Rattle.transcript.specs.Lines.{numbers_of, longest_numbers, line_in, end_in};
 
-use crate::text::{number, tail, word};
+use crate::text::Text;
 use ledger::Answer;
 use ledger::sizes::LONGEST;
 
@@ -14,19 +14,19 @@ pub const LONGEST_LINE: usize = LONGEST_BARE + 2 * LONGEST;
 
 pub const LONGEST_END: usize = 15;
 
-// Writes the seven numbers of a line at the start of a room, and answers where they end.
-fn numbers(answer: Answer, input: u32, blocking: u32, room: &mut [u8]) -> usize
-    requires { longest_numbers ≤ length room.old }
-    ensures put { Put room.old room.new 0 (numbers_of answer input blocking) result }
-    ensures upper_bound { result ≤ longest_numbers }
+// Writes the seven numbers of a line.
+fn numbers(answer: Answer, input: u32, blocking: u32, text: &mut Text)
+    requires { HasRoom text.old longest_numbers }
+    ensures put { Adds text.old text.new (numbers_of answer input blocking) }
+    ensures upper_bound { AddsAtMost text.old text.new longest_numbers }
 {
-    let a = word(answer.number, room, 0);
-    let b = word(answer.delivered, room, a);
-    let c = word(input, room, b);
-    let d = word(blocking, room, c);
-    let e = word(answer.blocks, room, d);
-    let f = word(answer.compressions, room, e);
-    number(answer.added, room, f)
+    text.word(answer.number);
+    text.word(answer.delivered);
+    text.word(input);
+    text.word(blocking);
+    text.word(answer.blocks);
+    text.word(answer.compressions);
+    text.number(answer.added);
 }
 
 // Writes a line at the start of a room, and answers how many bytes it has: 0, and nothing is written, where the room is
@@ -34,16 +34,14 @@ fn numbers(answer: Answer, input: u32, blocking: u32, room: &mut [u8]) -> usize
 pub fn line(answer: Answer, input: u32, blocking: u32, bytes: &[u8], room: &mut [u8]) -> usize
     ensures { (record { count = result; room = room.new }) ≡ line_in room.old answer input blocking bytes.now }
 {
-    if room.len() < LONGEST_BARE {
+    if room.len() < LONGEST_BARE || (room.len() - LONGEST_BARE) / 2 < bytes.len() {
         return 0;
     }
-    if (room.len() - LONGEST_BARE) / 2 < bytes.len() {
-        return 0;
-    }
-    let told = numbers(answer, input, blocking, room);
-    let last = tail(bytes, room, told);
-    room[last] = b'\n';
-    last + 1
+    let mut text = Text::new(room);
+    numbers(answer, input, blocking, &mut text);
+    text.tail(bytes);
+    text.push(b'\n');
+    text.len()
 }
 
 // Writes the last line, `end` and a number, at the start of a room, and answers how many bytes it has: 0, and nothing is
@@ -54,11 +52,9 @@ pub fn ending(n: u32, room: &mut [u8]) -> usize
     if room.len() < LONGEST_END {
         return 0;
     }
-    room[0] = b'e';
-    room[1] = b'n';
-    room[2] = b'd';
-    room[3] = b' ';
-    let last = number(n, room, 4);
-    room[last] = b'\n';
-    last + 1
+    let mut text = Text::new(room);
+    text.letters(b"end ");
+    text.number(n);
+    text.push(b'\n');
+    text.len()
 }

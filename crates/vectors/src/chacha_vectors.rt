@@ -4,24 +4,12 @@ use std::io;
 
 // The state of section 2.3: the four constants, the key, the counter and the nonce.
 fn state(key: [u32; 8], counter: u32, nonce: [u32; 3]) -> [u32; 16] {
-    [
-        0x6170_7865,
-        0x3320_646e,
-        0x7962_2d32,
-        0x6b20_6574,
-        key[0],
-        key[1],
-        key[2],
-        key[3],
-        key[4],
-        key[5],
-        key[6],
-        key[7],
-        counter,
-        nonce[0],
-        nonce[1],
-        nonce[2],
-    ]
+    let mut s = [0u32; 16];
+    s[..4].copy_from_slice(&[0x6170_7865, 0x3320_646e, 0x7962_2d32, 0x6b20_6574]);
+    s[4..12].copy_from_slice(&key);
+    s[12] = counter;
+    s[13..].copy_from_slice(&nonce);
+    s
 }
 
 fn quarter_rounds(rt: &impl Print) -> io::Result<()> {
@@ -90,17 +78,21 @@ pub fn run(rt: &impl Print) -> io::Result<()> {
     let section = state(counting, 1, [0x0900_0000, 0x4a00_0000, 0]);
     block(rt, "RFC 7539 2.3.2: ", section)?;
     rooms(rt, section)?;
-    block(rt, "RFC 7539 A.1 #1: ", state(zero, 0, none))?;
-    block(rt, "RFC 7539 A.1 #2: ", state(zero, 1, none))?;
-    block(
-        rt,
-        "RFC 7539 A.1 #3: ",
-        state([0, 0, 0, 0, 0, 0, 0, 0x0100_0000], 1, none),
-    )?;
-    block(
-        rt,
-        "RFC 7539 A.1 #4: ",
-        state([0x0000_ff00, 0, 0, 0, 0, 0, 0, 0], 2, none),
-    )?;
-    block(rt, "RFC 7539 A.1 #5: ", state(zero, 0, [0, 0, 0x0200_0000]))
+    let appendix = [
+        ("RFC 7539 A.1 #1: ", state(zero, 0, none)),
+        ("RFC 7539 A.1 #2: ", state(zero, 1, none)),
+        (
+            "RFC 7539 A.1 #3: ",
+            state([0, 0, 0, 0, 0, 0, 0, 0x0100_0000], 1, none),
+        ),
+        (
+            "RFC 7539 A.1 #4: ",
+            state([0x0000_ff00, 0, 0, 0, 0, 0, 0, 0], 2, none),
+        ),
+        ("RFC 7539 A.1 #5: ", state(zero, 0, [0, 0, 0x0200_0000])),
+    ];
+    for (label, s) in appendix {
+        block(rt, label, s)?;
+    }
+    Ok(())
 }

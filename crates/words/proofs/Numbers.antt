@@ -1,6 +1,5 @@
 -- Laws of numbers laid out as bytes: lengths, the way there and back, runs of bytes and of words.
-use Rattle.std.proofs.Common.{◌≡◌, ℕ, zero, suc, ◌+◌, ◌*◌, ◌/◌, ◌%◌, ◌^◌, ◌<◌, ◌≤◌, List, [], ◌∷◌, ◌++◌, length, get_or, take, drop, sym, refl, ap, ◌∙◌, append_assoc, append-nil, mul_assoc, arith, length-append, drop-cons, take-suc, pow-add, shr_lt}
-use lib.Seq.{drop-length}
+use Rattle.std.proofs.Common.{◌≡◌, ℕ, zero, suc, ◌+◌, ◌*◌, ◌/◌, ◌%◌, ◌^◌, ◌<◌, ◌≤◌, List, [], ◌∷◌, ◌++◌, length, get_or, take, sym, refl, ap, ◌∙◌, append_assoc, append-nil, mul_assoc, arith, length-append, take-suc, pow-add, shr_lt}
 use Rattle.words.specs.Bytes.{le_bytes, le_number, words_bytes, bytes_words}
 
 pub length_le_bytes : (n x : ℕ) → length (le_bytes n x) ≡ n
@@ -45,22 +44,6 @@ bytes_number (b ∷ bs) h =
     let m : (b + 2 ^ 8 * le_number bs) % 2 ^ 8 ≡ b = omega arith in
     let d : (b + 2 ^ 8 * le_number bs) / 2 ^ 8 ≡ le_number bs = omega arith in
     rw (m, d, r)
-
--- the number that n bytes make, read one at a time from a place on
-unfoldable pub num : ℕ → List ℕ → ℕ → ℕ
-num zero bs i = 0
-num (suc n) bs i = get_or bs i 0 + 2 ^ 8 * num n bs (suc i)
-
-num-drop : (n : ℕ) (bs : List ℕ) (i : ℕ) → i + n ≡ length bs → num n bs i ≡ le_number (drop i bs)
-unfolding num le_number
-num-drop zero bs i e =
-    let k : i ≡ length bs = omega arith in
-    rw (k, drop-length bs)
-num-drop (suc n) bs i e = rw (drop-cons bs i 0 (omega arith), num-drop n bs (suc i) (omega arith))
-
--- all the bytes of a list, read one at a time
-pub num_all : (n : ℕ) (bs : List ℕ) → length bs ≡ n → num n bs 0 ≡ le_number bs
-num_all n bs e = num-drop n bs 0 (omega arith)
 
 -- bytes in two runs: the second counts in whole turns of the first
 pub le_number-append : (a b : List ℕ) → le_number (a ++ b) ≡ le_number a + 2 ^ (8 * length a) * le_number b

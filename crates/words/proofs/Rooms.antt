@@ -1,5 +1,5 @@
 -- Bytes laid over a room that is lent: a run of stores, `sets` of the kit.
-use Rattle.std.proofs.Common.{◌≡◌, ℕ, suc, ◌+◌, ◌*◌, ◌<◌, ◌≤◌, List, [], ◌∷◌, ◌++◌, length, get_or, take, drop, set, refl, ap, ◌∙◌, add-zero, arith, take-append-drop, length-take-le, take_all, take-suc, drop-set-lt}
+use Rattle.std.proofs.Common.{◌≡◌, ℕ, suc, ◌+◌, ◌*◌, ◌<◌, ◌≤◌, List, [], ◌∷◌, ◌++◌, length, get_or, take, drop, set, refl, ap, ◌∙◌, add-zero, add-one, arith, take-append-drop, length-take-le, take_all, take-suc, drop-set-lt}
 use lib.Seq.{sets, take-set-lt}
 use Rattle.words.specs.Bytes.{le_bytes, words_bytes}
 use Rattle.words.proofs.Numbers.{length-words_bytes, words_bytes-suc}
@@ -16,6 +16,10 @@ pub sets-suc : (l : List ℕ) (at : ℕ) (b : List ℕ) (i : ℕ) → i < length
 sets-suc l at b i h =
     let e : at + i ≡ at + length (take i b) = omega (arith, length-take-le i b (omega arith)) in
     rw (e, take-suc b i 0 h) (sets-append l at (take i b) (get_or b i 0 ∷ []))
+
+-- .. as a loop over the bytes has it
+pub one_byte_more : (l : List ℕ) (at : ℕ) (b : List ℕ) (i : ℕ) → i < length b → set (sets l at (take i b)) (at + i) (get_or b i 0) ≡ sets l at (take (i + 1) b)
+one_byte_more l at b i h = rw add-one (sets-suc l at b i h)
 
 -- the bytes of one more word, laid over a room after those of the words before it
 pub sets_word : (l ws : List ℕ) (i : ℕ) → i < length ws

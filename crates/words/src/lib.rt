@@ -1,19 +1,22 @@
 // 32-bit words and bytes: what every crate above says and does with them.
 //
-// `turn` rotates a word; `bytes` lays numbers out as bytes, little endian, and reads them back; `room` lays them into a room that is lent.
-// A sum that wraps is the kit's `std::num::wrapping_add_u32`, whose contract is the definition `add` of specs/Words.antt.
+// `turn` rotates a word; `adding` adds whole lists of words; `bytes` lays numbers out as bytes, little endian, and reads them back; `room`
+// lays them into a room that is lent. A sum of two words that wraps is the library's `wrapping_add`, which is the definition `add` of
+// specs/Words.antt.
 //
 // Each function is total: none has a `requires`, and each contract is one equation with a definition of specs/. What a
 // further crate needs to know of the definitions (bounds, round trips, a loop that adds word by word) is proved once in
 // proofs/, and cited from there.
 #![tactic(auto)]
 
+pub mod adding;
 pub mod bytes;
 pub mod room;
 pub mod turn;
 
+pub use adding::add_words;
 pub use bytes::{
     bytes_of_u16, bytes_of_u32, bytes_of_u64, swap_bytes, u16_of_bytes, u32_of_bytes, u64_of_bytes,
 };
-pub use room::put_u32;
+pub use room::{put_bytes, put_u32};
 pub use turn::rotate_left;

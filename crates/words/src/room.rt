@@ -1,4 +1,4 @@
-// Bytes laid into a room that is lent.
+// Bytes laid into a room that is lent. What would lie past the room's end is dropped.
 ghost use Rattle.std.specs.Prelude.{◌≡◌, ◌+◌, slice_set};
 ghost use Rattle.std.proofs.lemmas.List.Edits.{sets};
 ghost use Rattle.words.specs.Bytes.{le_bytes};
@@ -9,21 +9,25 @@ use crate::bytes::bytes_of_u32;
 fn put_byte(out: &mut [u8], at: usize, k: usize, b: u8)
     ensures { out.new ≡ slice_set out.old (at + k) b }
 {
-    if at < out.len() {
-        if k < out.len() - at {
-            out[at + k] = b;
-        }
+    if at < out.len() && k < out.len() - at {
+        out[at + k] = b;
     }
 }
 
-// The four bytes of a number laid over a room from `at` on. What would lie past the room's end is dropped.
+// Bytes laid over a room from `at` on. One by one: a copy whose length the compiler does not know is a call of memcpy, which tests/copies
+// takes in a front for a copy of what is lent.
+#[tactic(auto, using(crate::proofs::Rooms::one_byte_more))]
+pub fn put_bytes(out: &mut [u8], at: usize, bytes: &[u8])
+    ensures { out.new ≡ sets out.old at bytes.now }
+{
+    for (k, b) in bytes.iter().enumerate() {
+        put_byte(out, at, k, *b);
+    }
+}
+
+// The four bytes of a number laid over a room from `at` on.
 pub fn put_u32(out: &mut [u8], at: usize, x: u32)
     ensures { out.new ≡ sets out.old at (le_bytes 4 x) }
 {
-    let b = bytes_of_u32(x);
-    let mut i: usize = 0;
-    while i < 4 {
-        put_byte(out, at, i, b[i]);
-        i += 1;
-    }
+    put_bytes(out, at, &bytes_of_u32(x));
 }

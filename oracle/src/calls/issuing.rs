@@ -13,10 +13,10 @@ use crate::random::Random;
 use crate::situations::BORDER_DEVICES;
 
 /// A sequence, once its keeper is made.
-pub type Sequence = fn(&mut Trace, &mut Random) -> io::Result<()>;
+pub(super) type Sequence = fn(&mut Trace, &mut Random) -> io::Result<()>;
 
 /// Those that every trace goes through.
-pub const ALL: [Sequence; 9] = [
+pub(super) const ALL: [Sequence; 9] = [
     refusals,
     records_out_of_range,
     classes,

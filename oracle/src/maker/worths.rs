@@ -122,7 +122,9 @@ fn refused(draft: &mut Draft, random: &mut Random, number: u8) {
 const TURNS: [u32; 4] = [2, 3, 4, 16];
 
 /// The bits that one turn takes.
-const TURN: u32 = INPUT.size / 2 / 8;
+fn one_turn() -> u32 {
+    INPUT.size / 2 / 8
+}
 
 /// A seed of so many turns, the last of them a whole one, all but a bit, or just
 /// a bit. After one of the most, the pool is full before another is used up.
@@ -132,7 +134,8 @@ fn several_turns(draft: &mut Draft, random: &mut Random, turns: u32) {
     if most || random.one_in(2) {
         draft.credit(random, 200);
     }
-    let bits = random.pick(&[TURN * (turns - 1) + 1, TURN * turns - 1, TURN * turns]);
+    let turn = one_turn();
+    let bits = random.pick(&[turn * (turns - 1) + 1, turn * turns - 1, turn * turns]);
     draft.credit(random, bits);
     if most {
         draft.credit(random, 8 * LONGEST as u32);

@@ -1,31 +1,33 @@
-use mathlib.Core.Path.{sym, ◌∙◌}
-use native.Mathlib.Omega.{arith}
+use mathlib.Core.Path.{refl, sym, ap, ◌∙◌}
+use Rattle.std.proofs.lemmas.Result.{err_from_is_err_and}
+use Rattle.journal.proofs.Refused.{not_0}
 use Rattle.index.specs.Calls.{append_refused}
-use Rattle.index.proofs.Longer.{refused_with, by_its_number}
-use Rattle.index.proofs.Refusing.{ends, fits_room, found_whole, by_journal, by_index, by_last}
+use Rattle.index.proofs.Longer.{not_extended, by_the_number}
+use Rattle.index.proofs.Refusing.{ends, fits_room, found_index, by_journal, by_index, by_last}
 use Rattle.index.proofs.appending.append_if.Goals as goal
 
-pub returns-then-found-ne0 : goal.returns-then-found-ne0
+pub returns-in_err-fresh : goal.returns-in_err-fresh
 unfolding append_refused
-returns-then-found-ne0 c = let told = c.refused.ensures in
-    let a = c.args in
-    let so = refused_with a.room.now a.len a.kept a.more.now _ _ (by_journal a.room.now a.len a.found c.requires.found_value a.good _ c.if-found-ne0.true) c.if-found-ne0.true _ told in
-    record { value = so.0; room_after = so.1 }
+returns-in_err-fresh g c = let a = c.args in
+    let p = err_from_is_err_and c.from_residual.result c.from_residual.ensures.1 in
+    let known = rw c.in_err-fresh.was at c.requires.found_value in
+    rw (p.1, p.2) (not_extended a.room.now a.len a.more.now _ _ (by_journal a.room.now a.len _ known _ _ (not_0 _)))
 
-pub returns-then-not-good : goal.returns-then-not-good
+pub returns-then-not-is : goal.returns-then-not-is
 unfolding append_refused
-returns-then-not-good c = let told = c.refused-then-not-good.ensures in
-    let a = c.args in
-    let so = refused_with a.room.now a.len a.kept a.more.now _ _ (by_index a.room.now a.len a.found c.requires.found_value a.good _ c.if-found-ne0.false c.if-not-good.true) (λ z. omega (arith, z)) _ told in
-    record { value = so.0; room_after = so.1 }
+returns-then-not-is g c = let a = c.args in
+    let known = rw c.in_ok-fresh.was at c.requires.found_value in
+    let same = ap (g.K.Kept.tells a.kept.now) (found_index a.room.now a.len _ known refl) in
+    not_extended a.room.now a.len a.more.now _ _ (by_index a.room.now a.len _ known _ _ refl (sym same ∙ (sym c.is.ensures ∙ c.if-not-is.true)))
 
-pub extend-requires : goal.extend-requires
-extend-requires c = let a = c.args in
-    let z = c.if-found-ne0.false in
-    record { room_len = (c.requires.room_len, fits_room a.room.now a.len (sym (ends a.room.now a.len a.found c.requires.found_value) ∙ z)); len_value = found_whole a.room.now a.len a.found c.requires.found_value z; roomy = c.requires.roomy z }
+pub extend-requires-clause-room_len : goal.extend-requires-clause-room_len
+extend-requires-clause-room_len g c = let a = c.args in
+    let known = rw c.in_ok-fresh.was at c.requires.found_value in
+    (c.requires.room_len, fits_room a.room.now a.len (sym (ends a.room.now a.len _ known)))
 
 pub returns : goal.returns
 unfolding append_refused
-returns c = let a = c.args in
-    let so = by_its_number a.room.now a.len a.kept a.more.now _ _ (by_last a.room.now a.len a.found c.requires.found_value a.good _ c.if-found-ne0.false c.if-not-good.false) _ _ (c.extend.ensures.value, c.extend.ensures.room_after) in
-    record { value = so.0; room_after = so.1 }
+returns g c = let a = c.args in
+    let known = rw c.in_ok-fresh.was at c.requires.found_value in
+    let same = ap (g.K.Kept.tells a.kept.now) (found_index a.room.now a.len _ known refl) in
+    by_the_number (by_last a.room.now a.len _ known _ _ refl (sym same ∙ (sym c.is.ensures ∙ c.if-not-is.false))) c.extend.ensures

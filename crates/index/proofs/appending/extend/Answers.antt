@@ -2,39 +2,31 @@ use mathlib.Core.Path.{sym, ◌∙◌}
 use Prim.Native.Nat.{◌-◌, ◌≤◌}
 use native.Mathlib.Omega.{arith}
 use lib.ListN.{length}
+use Rattle.std.proofs.lemmas.Result.{err_from_is_err_and}
 use Rattle.journal.specs.Header.{largest}
-use Rattle.index.proofs.Longer.{too_long, number_longer, updated_longer, refused_with, done_with, roomy_on}
+use Rattle.journal.proofs.Laying.{copied}
+use Rattle.index.proofs.Longer.{too_long, number_longer, updated_longer, not_extended, extended, roomy_on}
 use Rattle.index.proofs.appending.extend.Goals as goal
 
 pub returns-then-more-room : goal.returns-then-more-room
-returns-then-more-room c = let told = c.refused.ensures in
-    let a = c.args in
-    let so = refused_with a.room.now _ _ a.more.now _ _ (too_long a.room.now a.len a.fresh a.more.now c.requires.room_len.0 c.requires.room_len.1 (omega arith)) (λ z. omega (arith, z)) _ told in
-    record { value = so.0; room_after = so.1 }
+returns-then-more-room c = let a = c.args in
+    not_extended a.room.now a.len a.more.now _ _ (too_long a.room.now a.len a.fresh a.more.now c.requires.room_len.0 c.requires.room_len.1 (omega arith))
 
-pub add_records-p-requires : goal.add_records-p-requires
-add_records-p-requires c = record { from_in_bounds = (omega arith, omega arith); roomy = roomy_on c.args.fresh c.records-count.ensures.value c.requires.roomy }
+pub add_records-requires-clause-roomy : goal.add_records-requires-clause-roomy
+add_records-requires-clause-roomy c = roomy_on c.args.fresh c.records-count.ensures.value c.requires.roomy
 
-pub returns-then-p-ne0 : goal.returns-then-p-ne0
-returns-then-p-ne0 c = let told = c.refused-then-p-ne0.ensures in
-    let wrong = c.if-p-ne0.true in
-    let said = c.add_records-p.ensures in
-    let version = c.version_in-version.ensures in
-    let a = c.args in
-    let so = refused_with a.room.now _ _ a.more.now _ _
-    (said.number_value ∙ sym (number_longer a.room.now a.len a.fresh a.more.now c.requires.room_len.0 c.requires.room_len.1 c.requires.len_value (omega arith) _ version))
-    wrong _ told in
-    record { value = so.0; room_after = so.1 }
+pub returns-in_err-add_records : goal.returns-in_err-add_records
+returns-in_err-add_records c = let a = c.args in
+    let p = err_from_is_err_and c.from_residual.result c.from_residual.ensures.1 in
+    let short : length a.more.now ≤ largest - a.len = omega arith in
+    let longer = number_longer a.room.now a.len a.fresh a.more.now c.requires.room_len.0 c.requires.room_len.1 c.requires.len_value short _ c.version_in-version.ensures in
+    rw (p.1, p.2) (not_extended a.room.now a.len a.more.now _ _ (c.in_err-add_records.ensures.number_value ∙ sym longer))
 
 pub returns : goal.returns
-returns c = let laid = c.lay.ensures in
-    let right = c.if-p-ne0.false in
-    let said = c.add_records-p.ensures in
-    let many = c.records-count.ensures.value in
+returns c = let a = c.args in
+    let said = c.in_ok-add_records.ensures in
     let version = c.version_in-version.ensures in
-    let a = c.args in
     let short : length a.more.now ≤ largest - a.len = omega arith in
-    let so = done_with a.room.now _ _ a.more.now _
-    (number_longer a.room.now a.len a.fresh a.more.now c.requires.room_len.0 c.requires.room_len.1 c.requires.len_value short _ version ∙ sym said.number_value ∙ right)
-    _ (said.reads_after ∙ updated_longer a.room.now a.len a.fresh a.more.now c.requires.room_len.0 c.requires.room_len.1 c.requires.len_value short _ version _ many) _ laid in
-    record { value = so.0; room_after = so.1 }
+    let longer = number_longer a.room.now a.len a.fresh a.more.now c.requires.room_len.0 c.requires.room_len.1 c.requires.len_value short _ version in
+    let updated = updated_longer a.room.now a.len a.fresh a.more.now c.requires.room_len.0 c.requires.room_len.1 c.requires.len_value short _ version _ c.records-count.ensures.value in
+    extended a.room.now a.len a.more.now _ (longer ∙ sym said.number_value) _ (said.index_after ∙ updated) _ (copied a.room.now a.more.now _ a.len (omega (arith, short, c.requires.room_len.0, c.requires.room_len.1)) c.copy_from_slice.ensures.after)

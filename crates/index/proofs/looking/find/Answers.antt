@@ -1,4 +1,4 @@
-use mathlib.Core.Path.{refl, ◌∙◌}
+use mathlib.Core.Path.{refl}
 use native.Mathlib.Omega.{arith}
 use borrow.Author.Tests.{lt-ltb, le-ltb}
 use Rattle.ledger.specs.Choice.{pick}
@@ -11,4 +11,4 @@ returns-then-n-count c = rw (le-ltb c.args.number c.args.count (omega arith)) (r
 
 pub returns : goal.returns
 unfolding sought pick
-returns c = rw (lt-ltb c.args.number c.args.count (omega arith)) (refl, c.pass-at.ensures.value ∙ rw c.wide.ensures.0 refl)
+returns c = rw (lt-ltb c.args.number c.args.count (omega arith)) (refl, c.pass-at.ensures.value)

@@ -1,10 +1,7 @@
-use mathlib.Core.Path.{◌∙◌}
-use Rattle.index.proofs.Refusing.{look_tested}
+use Rattle.index.specs.Calls.{agrees}
 use Rattle.index.proofs.looking.nk_look.Goals as goal
 
 pub returns : goal.returns
+unfolding agrees
 returns c = let told = c.look_if.ensures in
-    let alike = c.same_index-good.ensures in
-    let found = c.fresh_in-it.ensures.value in
-    let a = c.args in
-    record { value = told.value ∙ look_tested a.room.now a.len _ found a.index _ alike a.numbers.now; answers_after = told.answers_after; found_after = told.found_after }
+    rw c.number_given.ensures (record { value = told.value; answers_after = told.answers_after; found_after = told.found_after })

@@ -7,18 +7,19 @@ use Rattle.index.proofs.looking.pass.Goals as goal
 
 pub loop-i-init : goal.loop-i-init
 loop-i-init c = let z : c.args.n - 0 ≡ c.args.n = omega arith in
-    (omega arith, (rw z refl, omega arith))
+    (rw z refl, omega arith)
 
 pub loop-i-preserved : goal.loop-i-preserved
-loop-i-preserved c = let e = sym c.read.ensures ∙ c.in-One.is in
-    let h = (read_ahead _ _ _ _ _ e).1 in
-    (omega arith, (one_fewer _ _ _ _ _ _ _ _ (omega arith) e c.loop-i.invariant.1.0, omega (arith, h)))
+loop-i-preserved c = let e = rw c.in-Ok-Some.field-0-is at c.in-Ok-Some.ensures in
+    let h = (read_ahead _ _ _ _ _ (sym e)).1 in
+    (one_fewer _ _ _ _ _ _ _ _ (omega arith) (sym e) c.loop-i.invariant.0, omega (arith, h))
 
-pub returns-in-Stop : goal.returns-in-Stop
-returns-in-Stop c = record { value = sym (passed-stop _ _ _ _ _ (sym c.read.ensures ∙ c.in-Stop.is)) ∙ c.loop-i.invariant.1.0; upper_bound = c.loop-i.invariant.1.1 }
+pub returns-in-Ok-None : goal.returns-in-Ok-None
+returns-in-Ok-None c = let e = rw c.in-Ok-None.field-0-is at c.in-Ok-None.ensures in
+    record { value = sym (passed_end _ _ _ _ (sym e)) ∙ c.loop-i.invariant.0; upper_bound = c.loop-i.invariant.1 }
 
-pub returns-in-End : goal.returns-in-End
-returns-in-End c = record { value = sym (passed_end _ _ _ _ (sym c.read.ensures ∙ c.in-End.is)) ∙ c.loop-i.invariant.1.0; upper_bound = c.loop-i.invariant.1.1 }
+pub returns-in-Err : goal.returns-in-Err
+returns-in-Err c = record { value = sym (passed-stop _ _ _ _ _ (sym c.in-Err.ensures)) ∙ c.loop-i.invariant.0; upper_bound = c.loop-i.invariant.1 }
 
 pub returns : goal.returns
-returns c = record { value = none_left _ _ _ _ _ _ (omega arith) c.loop-i.invariant.1.0; upper_bound = c.loop-i.invariant.1.1 }
+returns c = record { value = none_left _ _ _ _ _ _ (omega arith) c.loop-i.invariant.0; upper_bound = c.loop-i.invariant.1 }

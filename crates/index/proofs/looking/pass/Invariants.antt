@@ -5,7 +5,4 @@ use Rattle.index.specs.Looking.{passed}
 use Rattle.index.proofs.looking.pass.Given as goal
 
 abbrev pub invariant-loop-i : goal.invariant-loop-i
-invariant-loop-i l = (l.i ≤ l.n) × ((passed (l.n - l.i) l.version l.j l.at ≡ passed l.n l.version l.j l.from) × (l.at ≤ max l.from (length l.j)))
-
-abbrev pub decreases-loop-i : goal.decreases-loop-i
-decreases-loop-i l = l.n - l.i
+invariant-loop-i l = (passed (l.n - l._i) l.version l.j l.at ≡ passed l.n l.version l.j l.from) × (l.at ≤ max l.from (length l.j))

@@ -1,14 +1,10 @@
-use mathlib.Core.Path.{◌≡◌}
 use native.Mathlib.Omega.{arith}
-use lib.ListN.{length}
 use Rattle.issuing.proofs.Passes.{room_left, no_room}
 use borrow.Author.Rules.{rules}
 use Rattle.issuing.proofs.remember.remember.Goals as goal
 
-pub returns-then-count-lt-REMEMBERED : goal.returns-then-count-lt-REMEMBERED
-returns-then-count-lt-REMEMBERED c = rw c.put.ensures (room_left c.args.number c.args.numbers.now c.args.count c.if-count-lt-REMEMBERED.true)
+pub returns-then-desk-eq-REMEMBERED : goal.returns-then-desk-eq-REMEMBERED
+returns-then-desk-eq-REMEMBERED c = no_room _ _ _ _ c.if-desk-eq-REMEMBERED.true (search rules) c.copy_within.ensures.after c.copy_from_slice.ensures.after
 
 pub returns : goal.returns
-returns c =
-    let long : length c.args.numbers.now ≡ 1024 = search rules in
-    rw (c.put-2.ensures, c.shift.ensures) (no_room c.args.number c.args.numbers.now c.args.count c.if-count-lt-REMEMBERED.false long (omega arith))
+returns c = rw c.copy_from_slice-2.ensures.after (room_left _ _ _ c.if-desk-eq-REMEMBERED.false c.requires (omega arith) (search rules) (search rules))

@@ -1,6 +1,7 @@
-use Rattle.journal.proofs.Parts.{num_8}
-use native.Mathlib.Omega.{arith}
+use mathlib.Core.Path.{ap, ◌∙◌}
+use Rattle.words.specs.Bytes.{le_number}
+use Rattle.journal.proofs.Parts.{eight_there}
 use Rattle.journal.proofs.fields.eight.Goals as goal
 
 pub returns : goal.returns
-returns c = omega (arith, num_8 c.args.j.now c.args.at (omega arith))
+returns c = c.u64_of_bytes.ensures ∙ ap le_number (eight_there c.args.j.now c.args.at c.requires)

@@ -1,6 +1,7 @@
-use Rattle.journal.proofs.Parts.{num_2}
-use native.Mathlib.Omega.{arith}
+use mathlib.Core.Path.{ap, ◌∙◌}
+use Rattle.words.specs.Bytes.{le_number}
+use Rattle.journal.proofs.Parts.{two_there}
 use Rattle.journal.proofs.fields.two.Goals as goal
 
 pub returns : goal.returns
-returns c = (omega (arith, num_2 c.args.j.now c.args.at (omega arith)), omega arith)
+returns c = c.u16_of_bytes.ensures ∙ ap le_number (two_there c.args.j.now c.args.at c.requires)

@@ -19,10 +19,10 @@ pub returns-in-4 : goal.returns-in-4
 returns-in-4 c = of_kind_lem _ _ _ 4 _ (omega arith) (search) (c.seed.ensures _)
 
 pub returns-in-5 : goal.returns-in-5
-returns-in-5 c = of_kind_lem _ _ _ 5 _ (omega arith) (search) (c.generator_read.ensures _)
+returns-in-5 c = of_kind_lem _ _ _ 5 _ (omega arith) (search) (c.reading.ensures _)
 
 pub returns-in-6 : goal.returns-in-6
-returns-in-6 c = of_kind_lem _ _ _ 6 _ (omega arith) (search) (c.blocking_read.ensures _)
+returns-in-6 c = of_kind_lem _ _ _ 6 _ (omega arith) (search) (c.reading-in-6.ensures _)
 
 pub returns-in_default : goal.returns-in_default
 returns-in_default c = of_kind_lem _ _ _ _ _ (omega arith) refl (search other)

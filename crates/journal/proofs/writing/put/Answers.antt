@@ -7,13 +7,13 @@ pub lay_head-behind-requires : goal.lay_head-behind-requires
 lay_head-behind-requires c = let a = c.args in
     omega (arith, bytes_size a.version a.it a.carried.now)
 
-pub lay_bytes-requires : goal.lay_bytes-requires
-lay_bytes-requires c = let a = c.args in
+pub lay-requires : goal.lay-requires
+lay-requires c = let a = c.args in
     omega (arith, bytes_size a.version a.it a.carried.now)
 
 pub returns : goal.returns
 unfolding bytes_of
-returns c = let bytes = c.lay_bytes.ensures in
+returns c = let bytes = c.lay.ensures in
     let head = c.lay_head-behind.ensures in
     let a = c.args in
     record { room_after = then a.room.now _ _ _ _ (head_of a.version a.it) a.carried.now head.0 head.1 bytes.0; value = omega (arith, head.1, bytes.1, bytes_size a.version a.it a.carried.now) }

@@ -7,8 +7,8 @@ use Rattle.lab.proofs.numbers.longer.Goals as goal
 
 pub returns-then-value-lt-ENOUGH : goal.returns-then-value-lt-ENOUGH
 unfolding onward pick
-returns-then-value-lt-ENOUGH c = (rw (lt-ltb c.args.value 100000 c.if-value-lt-ENOUGH.true) refl, omega arith)
+returns-then-value-lt-ENOUGH c = (rw (lt-ltb c.args.value 100000 c.if-value-lt-ENOUGH.true) (omega arith), omega arith)
 
-pub returns : goal.returns
+pub returns-else-value-lt-ENOUGH : goal.returns-else-value-lt-ENOUGH
 unfolding onward pick
-returns c = (rw (le-ltb c.args.value 100000 c.if-value-lt-ENOUGH.false) refl, omega arith)
+returns-else-value-lt-ENOUGH c = (rw (le-ltb c.args.value 100000 c.if-value-lt-ENOUGH.false) refl, omega arith)

@@ -1,28 +1,37 @@
-use mathlib.Core.Path.{refl, sym, ◌∙◌}
+use mathlib.Core.Path.{◌≡◌, refl, sym, ◌∙◌}
+use Prim.Native.Nat.{◌+◌}
 use native.Mathlib.Omega.{arith}
 use native.Mathlib.Numerals.{add-one}
-use Rattle.lab.proofs.Digits.{none, some, another, too_low, too_high, all_read, false_is_not_true}
+use lib.ListN.{get_or}
+use borrow.Author.Rules.{rules}
+use Rattle.lab.proofs.Digits.{none, some, counts, counts_not, in_digits, another, no_digit, all_read}
 use Rattle.lab.proofs.numbers.number.Goals as goal
 
-pub returns-then-word-eq0 : goal.returns-then-word-eq0
-returns-then-word-eq0 c = (none _ c.if-word-eq0.true, λ e. absurd (false_is_not_true e))
+pub returns-then-is_empty-clause-is_one : goal.returns-then-is_empty-clause-is_one
+returns-then-is_empty-clause-is_one c = none _ (search rules)
 
-pub loop-i-init : goal.loop-i-init
-loop-i-init c = (some _ c.if-word-eq0.false, (refl, omega arith))
+pub loop-b-init : goal.loop-b-init
+loop-b-init c = (some _ (search rules), refl, omega arith)
 
-pub returns-then-b-lt48 : goal.returns-then-b-lt48
-returns-then-b-lt48 c = (sym (too_low c.args.word.now c.loop-i.i (omega arith) c.if-b-lt48.true) ∙ c.loop-i.invariant.0, λ e. absurd (false_is_not_true e))
-
-pub returns-then-b-gt57 : goal.returns-then-b-gt57
-returns-then-b-gt57 c = (sym (too_high c.args.word.now c.loop-i.i (omega arith) c.if-b-gt57.true) ∙ c.loop-i.invariant.0, λ e. absurd (false_is_not_true e))
+pub returns-in_err-digit-clause-is_one : goal.returns-in_err-digit-clause-is_one
+returns-in_err-digit-clause-is_one c =
+    rw c.from_residual.ensures
+    (sym (no_digit c.args.word.now c.loop-b.b-index (omega arith) (counts_not _ c.in_err-digit.ensures)) ∙ c.loop-b.invariant.0)
 
 pub longer-value-requires : goal.longer-value-requires
-longer-value-requires c = (omega arith, (omega arith, c.loop-i.invariant.1.1))
+longer-value-requires c =
+    let d = counts _ _ c.in_ok-digit.ensures in
+    (omega (arith, d.1, in_digits _ d.0), c.loop-b.invariant.2)
 
-pub loop-i-preserved : goal.loop-i-preserved
-loop-i-preserved c = let a = another c.args.word.now c.loop-i.i (omega arith) c.loop-i.value c.if-b-lt48.false c.if-b-gt57.false in
-    (rw add-one (sym a.0 ∙ c.loop-i.invariant.0), (rw (add-one, c.longer-value.ensures.0) (sym a.1 ∙ c.loop-i.invariant.1.0), c.longer-value.ensures.1))
+pub loop-b-preserved : goal.loop-b-preserved
+loop-b-preserved c =
+    let d = counts _ _ c.in_ok-digit.ensures in
+    let a = another c.args.word.now c.loop-b.b-index (omega arith) c.loop-b.value d.0 in
+    let this : c.in_ok-digit.digit + 48 ≡ get_or c.args.word.now c.loop-b.b-index 0 = omega (arith, d.1, in_digits _ d.0) in
+    (rw add-one (sym a.0 ∙ c.loop-b.invariant.0), rw (add-one, c.longer-value.ensures.0, this) (sym a.1 ∙ c.loop-b.invariant.1), c.longer-value.ensures.1)
 
-pub returns : goal.returns
-returns c = let a = all_read c.args.word.now c.loop-i.i (omega arith) in
-    (sym a.0 ∙ c.loop-i.invariant.0, λ e. sym (a.1 c.loop-i.value) ∙ c.loop-i.invariant.1.0)
+pub returns-clause-is_one : goal.returns-clause-is_one
+returns-clause-is_one c = sym (all_read c.args.word.now c.loop-b.b-index (omega arith)).0 ∙ c.loop-b.invariant.0
+
+pub returns-clause-which : goal.returns-clause-which
+returns-clause-which c = sym ((all_read c.args.word.now c.loop-b.b-index (omega arith)).1 c.loop-b.value) ∙ c.loop-b.invariant.1

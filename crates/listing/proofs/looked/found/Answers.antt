@@ -1,8 +1,7 @@
-use native.Mathlib.Omega.{arith}
-use Rattle.transcript.proofs.Laws.{then, one}
+use Rattle.transcript.proofs.Writing.{adds_then}
 use Rattle.listing.specs.Listing.{found_text}
 use Rattle.listing.proofs.looked.found.Goals as goal
 
-pub returns : goal.returns
+pub returns-clause-put : goal.returns-clause-put
 unfolding found_text
-returns c = record { put = then _ _ _ _ _ _ _ _ c.numbers-behind.ensures.put (then _ _ _ _ _ _ _ _ c.tail-last.ensures.put (one _ _ _)); upper_bound = omega arith }
+returns-clause-put c = adds_then c.numbers.ensures.put (adds_then c.tail.ensures.put c.push.ensures)

@@ -1,8 +1,7 @@
-use native.Mathlib.Omega.{arith}
-use Rattle.transcript.proofs.Laws.{then, one}
+use Rattle.transcript.proofs.Writing.{adds_then}
 use Rattle.listing.specs.Listing.{gone_text}
 use Rattle.listing.proofs.looked.gone.Goals as goal
 
-pub returns : goal.returns
+pub returns-clause-put : goal.returns-clause-put
 unfolding gone_text
-returns c = record { put = then _ _ _ _ _ _ _ _ c.row-last.ensures.put (one _ _ _); upper_bound = omega arith }
+returns-clause-put c = adds_then (rw c.number-why.ensures at c.row.ensures.put) c.push.ensures

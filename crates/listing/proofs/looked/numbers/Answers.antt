@@ -1,28 +1,26 @@
-use native.Mathlib.Omega.{arith}
 use Rattle.journal.specs.Layout.{kind_of, fields_of}
-use Rattle.listing.proofs.Texts.{by_kind}
 use Rattle.listing.proofs.looked.numbers.Goals as goal
 
-pub returns-in-Event : goal.returns-in-Event
+pub returns-in-Event-clause-put : goal.returns-in-Event-clause-put
 unfolding kind_of fields_of
-returns-in-Event c = record { put = by_kind _ _ _ c.row.result c.args.place _ _ c.in-Event.is c.row.ensures.put; upper_bound = omega arith }
+returns-in-Event-clause-put c = rw c.in-Event.is c.row.ensures.put
 
-pub returns-in-Interrupt : goal.returns-in-Interrupt
+pub returns-in-Interrupt-clause-put : goal.returns-in-Interrupt-clause-put
 unfolding kind_of fields_of
-returns-in-Interrupt c = record { put = by_kind _ _ _ c.row-in-Interrupt.result c.args.place _ _ c.in-Interrupt.is c.row-in-Interrupt.ensures.put; upper_bound = omega arith }
+returns-in-Interrupt-clause-put c = rw c.in-Interrupt.is c.row-in-Interrupt.ensures.put
 
-pub returns-in-Write : goal.returns-in-Write
+pub returns-in-Write-clause-put : goal.returns-in-Write-clause-put
 unfolding kind_of fields_of
-returns-in-Write c = record { put = by_kind _ _ _ c.row-in-Write.result c.args.place _ _ c.in-Write.is c.row-in-Write.ensures.put; upper_bound = omega arith }
+returns-in-Write-clause-put c = rw c.in-Write.is c.row-in-Write.ensures.put
 
-pub returns-in-Seed : goal.returns-in-Seed
+pub returns-in-Seed-clause-put : goal.returns-in-Seed-clause-put
 unfolding kind_of fields_of
-returns-in-Seed c = record { put = by_kind _ _ _ c.row-in-Seed.result c.args.place _ _ c.in-Seed.is c.row-in-Seed.ensures.put; upper_bound = omega arith }
+returns-in-Seed-clause-put c = rw c.in-Seed.is c.row-in-Seed.ensures.put
 
-pub returns-in-Read : goal.returns-in-Read
+pub returns-in-Read-clause-put : goal.returns-in-Read-clause-put
 unfolding kind_of fields_of
-returns-in-Read c = record { put = by_kind _ _ _ c.row-in-Read.result c.args.place _ _ c.in-Read.is c.row-in-Read.ensures.put; upper_bound = omega arith }
+returns-in-Read-clause-put c = rw c.in-Read.is c.row-in-Read.ensures.put
 
-pub returns-in-BlockingRead : goal.returns-in-BlockingRead
+pub returns-in-BlockingRead-clause-put : goal.returns-in-BlockingRead-clause-put
 unfolding kind_of fields_of
-returns-in-BlockingRead c = record { put = by_kind _ _ _ c.row-in-BlockingRead.result c.args.place _ _ c.in-BlockingRead.is c.row-in-BlockingRead.ensures.put; upper_bound = omega arith }
+returns-in-BlockingRead-clause-put c = rw c.in-BlockingRead.is c.row-in-BlockingRead.ensures.put

@@ -1,8 +1,7 @@
-use native.Mathlib.Omega.{arith}
-use Rattle.transcript.proofs.Laws.{then, one}
+use Rattle.transcript.proofs.Writing.{adds_then}
 use Rattle.listing.specs.Listing.{named}
 use Rattle.listing.proofs.named.line.Goals as goal
 
-pub returns : goal.returns
+pub returns-clause-put : goal.returns-clause-put
 unfolding named
-returns c = record { put = then _ _ _ _ _ _ _ _ c.letters-behind.ensures (then _ _ _ _ _ _ _ _ c.row-last.ensures.put (one _ _ _)); upper_bound = omega (arith, c.letters-behind.ensures.place) }
+returns-clause-put c = adds_then c.letters.ensures (adds_then c.row.ensures.put c.push.ensures)

@@ -1,13 +1,11 @@
-use mathlib.Core.Path.{◌≡◌}
-use Prim.Native.Nat.{◌+◌, ◌-◌, ◌*◌, ◌≤◌}
-use lib.ListN.{length, drop}
+use Prim.Native.Nat.{◌*◌}
+use lib.ListN.{take}
+use Rattle.transcript.specs.Writing.{Adds, AddsAtMost}
 use Rattle.listing.specs.Listing.{spaced}
-use Rattle.listing.proofs.Further.{Begun}
 use Rattle.listing.proofs.row.row.Given as goal
 
-abbrev pub invariant-loop-i : goal.invariant-loop-i
-invariant-loop-i l = (l.i ≤ length l.numbers) × ((l.place ≤ l.at + 21 * l.i) × ((length l.room ≡ length l.initial.room)
-    × Begun l.initial.room l.room l.at l.place (spaced (drop l.i l.numbers)) (spaced l.numbers)))
-
-abbrev pub decreases-loop-i : goal.decreases-loop-i
-decreases-loop-i l = length l.numbers - l.i
+abbrev pub invariant-loop-n : goal.invariant-loop-n
+invariant-loop-n l = record {
+  so_far : Adds l.initial.text l.text (spaced (take l.n-index l.numbers));
+  at_most : AddsAtMost l.initial.text l.text (21 * l.n-index);
+}

@@ -1,7 +1,6 @@
-use native.Mathlib.Omega.{arith}
-use Rattle.journal.specs.Layout.{sum}
+use borrow.Author.Rules.{rules}
+use Rattle.listing.proofs.Texts.{sum_is}
 use Rattle.listing.proofs.totals.records.Goals as goal
 
 pub returns : goal.returns
-unfolding sum
-returns c = omega arith
+returns c = rw (← sum_is c.args.kinds.now) (search rules)

@@ -11,13 +11,16 @@ use Rattle.mixer.proofs.extracting.hash_bytes.Goals as goal
 
 pub loop-i-init : goal.loop-i-init
 unfolding words_bytes
-loop-i-init c = (search rules, refl, refl)
+loop-i-init c = record { as_many = refl; laid = refl }
 
 pub loop-i-preserved : goal.loop-i-preserved
-loop-i-preserved c = (search rules, search rules, rw (add-one, c.put_u32.ensures, c.loop-i.invariant.2) (sets_word _ c.args.h c.loop-i.i (omega arith)))
+loop-i-preserved c = record {
+  as_many = search rules;
+  laid = rw (add-one, c.put_u32.ensures, c.loop-i.invariant.laid) (sets_word _ c.args.h c.loop-i.i (omega arith));
+}
 
 pub returns : goal.returns
 returns c = let l = c.loop-i in
     let h = c.args.h in
     let e : l.i ≡ length h = omega arith in
-    rw (l.invariant.2, e, take-length h) (sets_whole _ (words_bytes h) (omega (arith, length-words_bytes h)))
+    rw (l.invariant.laid, e, take-length h) (sets_whole _ (words_bytes h) (omega (arith, length-words_bytes h)))

@@ -1,13 +1,13 @@
-use mathlib.Core.Path.{◌≡◌}
+use mathlib.Core.Path.{◌≡◌, ap, ◌∙◌}
+use Prim.Native.Nat.{ℕ, ◌-◌, min}
 use native.Mathlib.Omega.{arith}
-use native.Mathlib.Numerals.{add-one}
-use lib.ListN.{length-set}
-use Rattle.words.proofs.Rooms.{sets-suc}
+use lib.ListN.{length, take}
+use lib.Seq.{sets, length-take-le}
+use Rattle.mixer.proofs.Blocks.{laid_part}
 use Rattle.mixer.proofs.extracting.put_block.Goals as goal
 
-pub loop-i-preserved : goal.loop-i-preserved
-loop-i-preserved c = (omega arith, (simp length-set c.loop-i.invariant.1.0, rw (add-one, c.loop-i.invariant.1.1) (sets-suc c.args.out.now c.args.k c.args.b c.loop-i.i (omega arith))))
-
 pub returns : goal.returns
-returns c = let e : c.loop-i.i ≡ c.ten_of-n.result = omega arith in
-    record { out_after = rw (← c.ten_of-n.ensures, ← e) c.loop-i.invariant.1.1; value = rw c.ten_of-n.ensures }
+returns c = let a = c.args in
+    let n : c.min-n.result ≡ min 10 (length a.out.now - a.k) = omega (arith, c.min-n.ensures) in
+    let l = length-take-le c.min-n.result a.b (omega arith) in
+    rw (c.copy_from_slice.ensures.after) (laid_part a.out.now (take c.min-n.result a.b) a.k _ (omega arith) (omega arith) ∙ ap (λ (m : ℕ). sets a.out.now a.k (take m a.b)) n)

@@ -1,27 +1,32 @@
-use mathlib.Core.Path.{refl, sym}
-use Rattle.nk.proofs.Filling.{begun, goes_on, line-length, in_line, room_for, ended, full, again}
+use mathlib.Core.Path.{refl}
 use native.Mathlib.Omega.{arith}
+use Rattle.nk.proofs.Filling.{begun, goes_on, as_roomy, put_line, room_for, ended, full, again}
 use Rattle.nk.proofs.batches.fill_room.Goals as goal
 
-pub loop-out-init : goal.loop-out-init
-loop-out-init c = begun _ _ _ _ _ _ refl
+pub loop-next-init : goal.loop-next-init
+loop-next-init c = begun _ _ _ _ _ _ refl
 
-pub slice_bounds-lay-end : goal.slice_bounds-lay-end
-slice_bounds-lay-end c = sym (line-length _ _ _ _ _ _ _ _ _ _ c.loop-out.invariant _ _ _ _ _ c.take_turn-t.ensures)
+-- the room is as long as it was
+pub overflow_add-end : goal.overflow_add-end
+overflow_add-end c = let l = as_roomy _ _ _ _ _ _ _ _ _ _ c.loop-next.invariant _ _ _ _ _ c.take_turn-turn.ensures (omega (arith, c.fits-room)) in
+    let r = room_for _ _ _ _ _ _ _ _ _ _ c.loop-next.invariant _ _ _ _ _ c.take_turn-turn.ensures l in
+    omega (arith, l, r)
 
-pub lay-end-requires : goal.lay-end-requires
-lay-end-requires c = let filling = c.loop-out.invariant in
-    record { n_in_bounds = in_line _ _ _ _ _ _ _ _ _ _ filling _ _ _ _ _ c.take_turn-t.ensures; n_in_bounds_2 = room_for _ _ _ _ _ _ _ _ _ _ filling _ _ _ _ _ c.take_turn-t.ensures (omega (arith, c.lay-arg-1.given.0.1)) }
+pub returns-in_default : goal.returns-in_default
+returns-in_default c = let took = rw c.in_default.is at c.take_turn-turn.ensures in
+    let l = as_roomy _ _ _ _ _ _ _ _ _ _ c.loop-next.invariant _ _ _ _ _ took (omega (arith, c.fits-room)) in
+    ended _ _ _ _ _ _ _ _ _ _ c.loop-next.invariant _ _ _ _ _ took l _ _ (put_line _ _ _ _ _ _ _ _ _ _ c.loop-next.invariant _ _ _ _ _ took _ l c.copy_from_slice.ensures.after) refl
 
-pub returns-then-not-more : goal.returns-then-not-more
-returns-then-not-more c = ended _ _ _ _ _ _ _ _ _ _ c.loop-out.invariant _ _ _ _ _ c.take_turn-t.ensures (omega (arith, c.lay-arg-1.given.0.1)) _ _ c.lay-end.ensures c.if-not-more.true
+pub returns-then-count-gt-MOST_BEFORE_A_LINE : goal.returns-then-count-gt-MOST_BEFORE_A_LINE
+returns-then-count-gt-MOST_BEFORE_A_LINE c = let took = rw c.in-Some.is at c.take_turn-turn.ensures in
+    let l = as_roomy _ _ _ _ _ _ _ _ _ _ c.loop-next.invariant _ _ _ _ _ took (omega (arith, c.fits-room)) in
+    full _ _ _ _ _ _ _ _ _ _ c.loop-next.invariant _ _ _ _ _ took l _ _ (put_line _ _ _ _ _ _ _ _ _ _ c.loop-next.invariant _ _ _ _ _ took _ l c.copy_from_slice.ensures.after) refl c.if-count-gt-MOST_BEFORE_A_LINE.true
 
-pub returns-then-end-gt-MOST_BEFORE_A_LINE : goal.returns-then-end-gt-MOST_BEFORE_A_LINE
-returns-then-end-gt-MOST_BEFORE_A_LINE c = full _ _ _ _ _ _ _ _ _ _ c.loop-out.invariant _ _ _ _ _ c.take_turn-t.ensures (omega (arith, c.lay-arg-1.given.0.1)) _ _ c.lay-end.ensures c.if-not-more.false c.if-end-gt-MOST_BEFORE_A_LINE.true
-
-pub loop-out-smaller : goal.loop-out-smaller
-loop-out-smaller c = let h = goes_on _ _ _ _ _ _ _ _ _ _ c.loop-out.invariant _ _ _ _ _ c.take_turn-t.ensures c.if-not-more.false in
+pub loop-next-smaller : goal.loop-next-smaller
+loop-next-smaller c = let h = goes_on _ _ _ _ _ _ _ _ _ _ c.loop-next.invariant _ _ _ _ _ (rw c.in-Some.is at c.take_turn-turn.ensures) refl in
     omega arith
 
-pub loop-out-preserved : goal.loop-out-preserved
-loop-out-preserved c = again _ _ _ _ _ _ _ _ _ _ c.loop-out.invariant _ _ _ _ _ c.take_turn-t.ensures (omega (arith, c.lay-arg-1.given.0.1)) _ _ c.lay-end.ensures c.if-not-more.false c.if-end-gt-MOST_BEFORE_A_LINE.false
+pub loop-next-preserved : goal.loop-next-preserved
+loop-next-preserved c = let took = rw c.in-Some.is at c.take_turn-turn.ensures in
+    let l = as_roomy _ _ _ _ _ _ _ _ _ _ c.loop-next.invariant _ _ _ _ _ took (omega (arith, c.fits-room)) in
+    again _ _ _ _ _ _ _ _ _ _ c.loop-next.invariant _ _ _ _ _ took l _ _ (put_line _ _ _ _ _ _ _ _ _ _ c.loop-next.invariant _ _ _ _ _ took _ l c.copy_from_slice.ensures.after) refl c.if-count-gt-MOST_BEFORE_A_LINE.false

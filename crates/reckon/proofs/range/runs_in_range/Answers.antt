@@ -12,9 +12,8 @@ loop-i-preserved c =
     let q : to_z w64 (of_z w64 (get_or a.firsts2.now l.i (pos 0))) ≡ get_or a.firsts2.now l.i (pos 0) = search rules in
     let p2 : to_z w64 (of_z w64 (get_or a.seconds.now l.i (pos 0))) ≡ get_or a.seconds.now l.i (pos 0) = search rules in
     let q2 : to_z w64 (of_z w64 (get_or a.seconds2.now l.i (pos 0))) ≡ get_or a.seconds2.now l.i (pos 0) = search rules in (
-      search rules,
-      (
-        one_more 32 first_in_range first_in_range a.firsts.now a.firsts2.now l.i l.met _ (pos 0) (omega arith) (omega arith) (rw (p, q) at c.both_firsts-met.ensures) ∙ l.invariant.1.0,
-        one_more 33 second_in_range second_in_range a.seconds.now a.seconds2.now l.i l.met2 _ (pos 0) (omega arith) (omega arith) (rw (p2, q2) at c.both_seconds-met2.ensures) ∙ l.invariant.1.1,
-      ),
+      one_more 32 first_in_range a.firsts.now a.firsts2.now l.i l.met _ _ (pos 0) (omega arith) (omega arith) (rw p at c.first_reach.ensures) (rw q at c.first_reach-in-loop-i.ensures)
+          ∙ l.invariant.0,
+      one_more 33 second_in_range a.seconds.now a.seconds2.now l.i l.met2 _ _ (pos 0) (omega arith) (omega arith) (rw p2 at c.second_reach.ensures) (rw q2 at c.second_reach-in-loop-i.ensures)
+          ∙ l.invariant.1,
     )

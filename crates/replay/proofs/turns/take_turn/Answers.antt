@@ -4,14 +4,14 @@ use Rattle.replay.proofs.Handing.{front}
 use Rattle.replay.proofs.OneTurn.{at_one, at-stop, at_end}
 use Rattle.replay.proofs.turns.take_turn.Goals as goal
 
-pub line_with-count-requires : goal.line_with-count-requires
-line_with-count-requires c = (front _ _ _ _ _ _ c.run-d.ensures).fits
+pub line_with-len-requires : goal.line_with-len-requires
+line_with-len-requires c = (front _ _ _ _ _ _ c.run-a.ensures).fits
 
-pub returns-in-One : goal.returns-in-One
-returns-in-One c = at_one _ _ _ _ _ _ _ (omega (arith, c.line_with-arg-1.given.0.1)) _ _ _ _ _ _ (sym c.read.ensures ∙ c.in-One.is) c.run-d.ensures c.line_with-count.ensures
+pub returns-in-Ok-Some : goal.returns-in-Ok-Some
+returns-in-Ok-Some c = at_one _ _ _ _ _ _ _ (omega (arith, c.fits-room)) _ _ _ _ _ _ (sym (rw c.in-Ok-Some.field-0-is at c.in-Ok-Some.ensures)) c.run-a.ensures c.line_with-len.ensures
 
-pub returns-in-Stop : goal.returns-in-Stop
-returns-in-Stop c = at-stop _ _ _ _ _ _ _ (omega (arith, c.ending-arg-1.given.0.1)) _ _ (sym c.read.ensures ∙ c.in-Stop.is) c.ending-count.ensures
+pub returns-in-Ok-None : goal.returns-in-Ok-None
+returns-in-Ok-None c = at_end _ _ _ _ _ _ _ (omega (arith, c.fits-room)) _ (sym (rw c.in-Ok-None.field-0-is at c.in-Ok-None.ensures)) c.ending.ensures
 
-pub returns-in-End : goal.returns-in-End
-returns-in-End c = at_end _ _ _ _ _ _ _ (omega (arith, c.ending-arg-in-End-1.given.0.1)) _ (sym c.read.ensures ∙ c.in-End.is) c.ending-count-in-End.ensures
+pub returns-in-Err : goal.returns-in-Err
+returns-in-Err c = at-stop _ _ _ _ _ _ _ (omega (arith, c.fits-room)) _ _ (sym c.in-Err.ensures) (rw c.number.ensures at c.ending-in-Err.ensures)

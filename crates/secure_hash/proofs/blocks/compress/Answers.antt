@@ -25,8 +25,7 @@ loop-t-preserved c = let t = c.loop-t.t in (
 
 pub loop-t-2-init : goal.loop-t-2-init
 unfolding run
-loop-t-2-init c = let z : c.loop-t.t - 64 ≡ 0 = omega arith in
-    (search rules, search rules, search rules, rw z)
+loop-t-2-init c = (search rules, search rules, search rules, refl)
 
 pub loop-t-2-preserved : goal.loop-t-2-preserved
 loop-t-2-preserved c = (search rules, search rules, search rules, last_steps _ _ _ _ c.loop-t-2.t (omega arith) (omega arith) c.loop-t-2.invariant.3 c.of_twenty-r.ensures)

@@ -1,4 +1,4 @@
-use Rattle.std.proofs.Common.{◌≡◌, ℕ, zero, suc, refl}
+use Rattle.std.proofs.Common.{◌≡◌, ℕ, zero, suc, refl, arith}
 use Rattle.secure_hash.specs.Sha1.{mix, ch, parity, maj}
 use Rattle.secure_hash.proofs.steps.mix.Goals as goal
 
@@ -10,14 +10,14 @@ other (suc (suc zero)) h k x y z = absurd (k refl)
 other (suc (suc (suc zero))) h k x y z = refl
 other (suc (suc (suc (suc p)))) h k x y z = refl
 
-pub returns-then-p-eq0 : goal.returns-then-p-eq0
+pub returns-in-0 : goal.returns-in-0
 unfolding mix ch
-returns-then-p-eq0 c = rw c.if-p-eq0.true
+returns-in-0 g c = rw c.in-0.is
 
-pub returns-then-p-eq2 : goal.returns-then-p-eq2
+pub returns-in-2 : goal.returns-in-2
 unfolding mix maj
-returns-then-p-eq2 c = rw c.if-p-eq2.true
+returns-in-2 g c = rw c.in-2.is
 
-pub returns-else-p-eq2 : goal.returns-else-p-eq2
+pub returns-in_default : goal.returns-in_default
 unfolding parity
-returns-else-p-eq2 c = other c.args.p c.if-p-eq0.false c.if-p-eq2.false _ _ _
+returns-in_default g c = other g.row.P (λ e. omega arith) (λ e. omega arith) _ _ _

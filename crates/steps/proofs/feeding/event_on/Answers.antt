@@ -1,26 +1,28 @@
-use mathlib.Core.Path.{refl}
 use mathlib.Core.List.{[]}
+use native.Mathlib.Omega.{arith}
 use Rattle.ledger.proofs.SmallPlans.{small}
 use Rattle.keeper.specs.Calls.{device_event}
-use Rattle.steps.proofs.Accepted.{so, in_pools, EventPlan, event_plan}
-use Rattle.steps.proofs.Strokes.{event_decided, refusal, event-done}
+use Rattle.steps.proofs.Accepted.{so, in_pools, refused_other, EventPlan, event_plan}
+use Rattle.steps.proofs.Strokes.{lent_as, spots, event_decided, refusal, event-done}
+use borrow.Author.Rules.{rules}
 use Rattle.steps.proofs.feeding.event_on.Goals as goal
 
-pub returns-then-p-ne-DONE : goal.returns-then-p-ne-DONE
-returns-then-p-ne-DONE c blocking fast = rw c.answered.ensures (refusal _ (device_event _ _ _ _) [] _ (event_decided _ _ _ _ _ _ _ (c.others_in_range-others.ensures _) c.timer_of-t.ensures c.decide_event-p.ensures) c.if-p-ne-DONE.true)
+pub returns-in-Err : goal.returns-in-Err
+returns-in-Err c = rw (c.refused.ensures.kept, c.refused.ensures.value) (refusal _ (device_event _ _ _ _) [] _ (event_decided _ _ _ _ _ _ _ c.others_in_range-others.ensures c.device_timer-t.ensures c.in-Err.ensures.value) (refused_other c.in-Err.why))
 
 pub keep_timer-requires : goal.keep_timer-requires
-keep_timer-requires c = (so (EventPlan _) c.decide_event-p.ensures (event_plan _ _ _ _ _ _) c.if-p-ne-DONE.false).device_small
+keep_timer-requires c = (so (EventPlan _) c.in-Ok.ensures.value (event_plan _ _ _ _ _ _) c.in-Ok.ensures.ok).device_small
 
-pub feed_event-fed-requires : goal.feed_event-fed-requires
-feed_event-fed-requires c = rw c.feed_event-arg-1.given.0.1 (record { in_pool = (in_pools _ _ _ _ _ c.decide_event-p.ensures c.if-p-ne-DONE.false).input; ws_len = refl })
+pub new-input-requires : goal.new-input-requires
+new-input-requires c = (omega arith, (omega arith, rw (spots _ _ _ _ _ c.in-Ok.ensures.value).input (in_pools _ _ _ _ _ c.in-Ok.ensures.value c.in-Ok.ensures.ok).input))
 
-pub reseed-s-requires : goal.reseed-s-requires
-reseed-s-requires c = record { in_pool = rw c.reseed-arg-1.given.0.1 (rw c.feed_event-arg-1.given.0.1 at c.feed_event-fed.ensures.in_pool_2); g_len = c.reseed-arg-2-1.given.0.1; t_bound = rw c.decide_event-p.ensures (small _ _ _ _).reseed }
+pub reseed-requires : goal.reseed-requires
+reseed-requires c = (omega arith, (search rules, rw c.in-Ok.ensures.value (small _ _ _ _).reseed))
 
-pub carried_out-requires : goal.carried_out-requires
-carried_out-requires c = rw c.decide_event-p.ensures (small _ _ _ _)
+pub answer_of-requires : goal.answer_of-requires
+answer_of-requires c = rw c.in-Ok.ensures.value (small _ _ _ _)
 
 pub returns : goal.returns
-returns c blocking fast = rw c.carried_out.ensures
-    (event-done _ _ _ _ _ _ _ _ _ _ _ _ (event_decided _ _ _ _ _ _ _ (c.others_in_range-others.ensures _) c.timer_of-t.ensures c.decide_event-p.ensures) (so (EventPlan _) c.decide_event-p.ensures (event_plan _ _ _ _ _ _) c.if-p-ne-DONE.false) c.feed_event-arg-1.given.0.1 c.keep_timer.ensures c.feed_event-fed.ensures.result_after c.reseed-s.ensures.ws_after c.reseed-s.ensures.value c.reseed-s.ensures.g_after)
+returns c = rw c.answer_of.ensures
+    (event-done _ _ _ _ _ _ _ _ _ _ _ (event_decided _ _ _ _ _ _ _ c.others_in_range-others.ensures c.device_timer-t.ensures c.in-Ok.ensures.value) (so (EventPlan _) c.in-Ok.ensures.value (event_plan _ _ _ _ _ _) c.in-Ok.ensures.ok) c.keep_timer.ensures
+    (lent_as _ _ _ _ _ c.new-input.ensures.words_value c.new-input.ensures.spot_value (spots _ _ _ _ _ c.in-Ok.ensures.value).input) c.feed_event.ensures.pool_after c.reseed.ensures.pool_after c.reseed.ensures.g_after)

@@ -1,23 +1,26 @@
 use mathlib.Core.List.{[]}
+use native.Mathlib.Omega.{arith}
 use Rattle.ledger.specs.PublicCalls.{seed}
 use Rattle.ledger.proofs.SmallPlans.{small}
 use Rattle.keeper.specs.Calls.{seeded_with}
-use Rattle.steps.proofs.Accepted.{so, in_pools, FedPlan, seed_plan}
-use Rattle.steps.proofs.Strokes.{decided, seed_untimed, refusal, seed-done}
+use Rattle.steps.proofs.Accepted.{so, in_pools, refused_other, FedPlan, seed_plan}
+use Rattle.steps.proofs.Strokes.{lent_as, spots, decided, seed_untimed, refusal, seed-done}
+use borrow.Author.Rules.{rules}
 use Rattle.steps.proofs.feeding.seed_on.Goals as goal
 
-pub returns-then-p-ne-DONE : goal.returns-then-p-ne-DONE
-returns-then-p-ne-DONE c clocks blocking fast = rw c.answered.ensures (refusal _ (seeded_with _ _ _) [] _ (decided _ (seed _ _ _) _ _ (seed_untimed _ _ _) (c.others_in_range-others.ensures _) c.decide_seed-p.ensures) c.if-p-ne-DONE.true)
+pub returns-in-Err : goal.returns-in-Err
+returns-in-Err c = rw (c.refused.ensures.kept, c.refused.ensures.value) (refusal _ (seeded_with _ _ _) [] _ (decided _ (seed _ _ _) _ _ (seed_untimed _ _ _) c.others_in_range-others.ensures c.in-Err.ensures.value) (refused_other c.in-Err.why))
 
-pub feed-fed-requires : goal.feed-fed-requires
-feed-fed-requires c = rw c.feed-arg-1.given.0.1 (in_pools _ _ _ _ _ c.decide_seed-p.ensures c.if-p-ne-DONE.false).input
+pub new-input-requires : goal.new-input-requires
+new-input-requires c = (omega arith, (omega arith, rw (spots _ _ _ _ _ c.in-Ok.ensures.value).input (in_pools _ _ _ _ _ c.in-Ok.ensures.value c.in-Ok.ensures.ok).input))
 
-pub reseed-s-requires : goal.reseed-s-requires
-reseed-s-requires c = record { in_pool = rw c.reseed-arg-1.given.0.1 (rw c.feed-arg-1.given.0.1 at c.feed-fed.ensures.in_pool); g_len = c.reseed-arg-2-1.given.0.1; t_bound = rw c.decide_seed-p.ensures (small _ _ _ _).reseed }
+pub reseed-requires : goal.reseed-requires
+reseed-requires c = (omega arith, (search rules, rw c.in-Ok.ensures.value (small _ _ _ _).reseed))
 
-pub carried_out-requires : goal.carried_out-requires
-carried_out-requires c = rw c.decide_seed-p.ensures (small _ _ _ _)
+pub answer_of-requires : goal.answer_of-requires
+answer_of-requires c = rw c.in-Ok.ensures.value (small _ _ _ _)
 
 pub returns : goal.returns
-returns c clocks blocking fast = rw c.carried_out.ensures
-    (seed-done _ _ _ _ _ _ _ _ _ _ (decided _ (seed _ _ _) _ _ (seed_untimed _ _ _) (c.others_in_range-others.ensures _) c.decide_seed-p.ensures) (so FedPlan c.decide_seed-p.ensures (seed_plan _ _ _ _ _ _) c.if-p-ne-DONE.false) c.feed-arg-1.given.0.1 c.feed-fed.ensures.result_after c.reseed-s.ensures.ws_after c.reseed-s.ensures.value c.reseed-s.ensures.g_after)
+returns c = rw c.answer_of.ensures
+    (seed-done _ _ _ _ _ _ _ _ _ (decided _ (seed _ _ _) _ _ (seed_untimed _ _ _) c.others_in_range-others.ensures c.in-Ok.ensures.value) (so (FedPlan) c.in-Ok.ensures.value (seed_plan _ _ _ _ _ _) c.in-Ok.ensures.ok)
+    (lent_as _ _ _ _ _ c.new-input.ensures.words_value c.new-input.ensures.spot_value (spots _ _ _ _ _ c.in-Ok.ensures.value).input) c.feed.ensures.pool_after c.reseed.ensures.pool_after c.reseed.ensures.g_after)

@@ -1,9 +1,0 @@
-use Rattle.std.proofs.Common.{sym, arith}
-use lib.Seq.{set_out}
-use Rattle.words.proofs.room.put_byte.Goals as goal
-
-pub returns-else-k-out : goal.returns-else-k-out
-returns-else-k-out c = sym (set_out _ _ _ (omega arith))
-
-pub returns-else-at-out : goal.returns-else-at-out
-returns-else-at-out c = sym (set_out _ _ _ (omega arith))
