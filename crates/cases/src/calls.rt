@@ -1,4 +1,5 @@
-// P7 to P12, the event that was worth 60 units, a new device's first five events, and the round that reaches the ledger's bound: calls on the ledger of a fresh keeper, of which all else is in range.
+// P7 to P12, the event that was worth 60 units, a new device's first five events, and the round that reaches the ledger's bound: calls on the
+// ledger of a fresh keeper, of which all else is in range.
 use ledger::{Ledger, Plan, Refusal, Timer};
 use std::io;
 

@@ -29,7 +29,7 @@ pub fn block(s: [u32; 16]) -> [u32; 16]
 }
 
 // The sums of sixteen words and sixteen others laid over a room as bytes, from its start. Each is laid as soon as it is made, so that no
-// block stands on the stack, and the start state is read again where it lies.
+// block stands on the stack, and the start state is read again where it lies. By index, since it goes over three lists.
 fn lay_sums(t: [u32; 16], s: &[u32; 16], out: &mut [u8])
     ensures { out.new ≡ sets out.old 0 (serialize (add_words t s.now)) }
 {

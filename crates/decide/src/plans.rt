@@ -1,5 +1,4 @@
-// What a call will do, decided from public numbers alone. Each function here stands for the definition of the same name in
-// `ledger`; a `decide_` function is what code above calls, and it takes any values: out of range is a refusal like the others.
+// What a call will do, decided from public numbers alone. A function here that has the name of a definition of `ledger` stands for it; a `decide_` function is what code above calls, and it takes any values: out of range is a refusal like the others.
 #![tactic(auto, using(std::proofs::lemmas::Bool::Decides::nat_tests), unfolding(ledger::specs::Choice::pick, ledger::specs::Plans::first_seeding, ledger::specs::Plans::feed, ledger::specs::Plans::plan_event, ledger::specs::Plans::plan_interrupt, ledger::specs::Plans::plan_write, ledger::specs::Plans::plan_seed, ledger::specs::Plans::plan_read, ledger::specs::Plans::plan_blocking_read, ledger::specs::Plans::plan_call, ledger::specs::Plans::decide, ledger::specs::Range::ledger_in_range))]
 
 ghost use Rattle.std.specs.Prelude.{◌≡◌, true, ◌&&◌, ◌≤◌, ◌*◌, min, max, eqb, IsTrue, IsFalse, IfOk, MatchResult};
@@ -27,7 +26,8 @@ fn fresh_timer() -> Timer
     Timer::default()
 }
 
-// Nothing is done: no byte is moved, nothing is added, and no timer kept.
+// Nothing is done: no byte is moved, nothing is added, and no timer kept. That a plan has the number 0 is said by each clause below and not by the
+// type: the rules' idle plan is a `Plan` too, and has a refusal's number.
 fn idle(l: Ledger) -> Plan
     ensures { result ≡ idle done l }
 {
@@ -303,7 +303,7 @@ fn plan_blocking_read(len: usize, l: Ledger) -> Result<Plan, Refusal>
     })
 }
 
-// ---- what code above calls, with any values
+// ---- what code above calls, with any values; `others` and the ledger go side by side, as in the definition `decide`, which the theorems name
 
 // In range: what is decided from, and, by `others`, what it is not decided from.
 fn in_range(others: bool, l: Ledger, t: Timer) -> Result<(), Refusal>

@@ -22,7 +22,8 @@ pub const DRILL: u8 = 0x44;
 
 pub const LIVE: u8 = 0x4c;
 
-// How many numbers are remembered, and the numbers, oldest first. The places past the count are free.
+// How many numbers are remembered, and the numbers, oldest first. The places past the count are free. C's form (include/nk.h): C lends it with any
+// count, so that the count is in range is a fact of contracts and none of the type.
 #[repr(C)]
 #[derive(Drop)]
 pub struct Desk {

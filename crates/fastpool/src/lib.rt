@@ -3,11 +3,11 @@
 // The contract is one equation with the definition `stirred` of `keeper`, for any words and any numbers; sums wrap.
 #![tactic(auto)]
 
-ghost use Rattle.std.specs.Prelude.{◌≡◌, ◌/◌, ◌%◌, ◌^◌, ◌<◌};
+ghost use Rattle.std.specs.Prelude.{◌≡◌, ◌<◌};
 ghost use Rattle.keeper.specs.FastPool.{fast_step, fast_round, stirred};
 
 use ledger::sizes::FAST_WORDS;
-use words::rotate_left;
+use words::{high_half, low_half, rotate_left};
 
 // a += b, c += d, b and d rotated left by r and s, d ^= a, b ^= c.
 fn fast_step(f: [u32; FAST_WORDS], r: u32, s: u32) -> [u32; FAST_WORDS]
@@ -27,29 +27,16 @@ fn fast_round(f: [u32; FAST_WORDS]) -> [u32; FAST_WORDS]
     fast_step(g, 16, 14)
 }
 
-// The low and the high half of a number. No method of the library is plainer.
-fn low(x: u64) -> u32
-    ensures { result ≡ x % 2 ^ 32 }
-{
-    (x & 0xffff_ffff) as u32
-}
-
-fn high(x: u64) -> u32
-    ensures { result ≡ x / 2 ^ 32 }
-{
-    (x >> 32) as u32
-}
-
 // An interrupt's numbers go in, and the two steps are done twice over.
 #[tactic(auto, unfolding(keeper::specs::FastPool::stirred))]
 pub fn stir(f: &mut [u32; FAST_WORDS], at: u32, number: u32, stamp: u64, address: u64)
     ensures { f.new ≡ stirred at number stamp address f.old }
 {
     let x = [
-        f[0] ^ (low(stamp) ^ number),
-        f[1] ^ (at ^ high(stamp)),
-        f[2] ^ low(address),
-        f[3] ^ high(address),
+        f[0] ^ (low_half(stamp) ^ number),
+        f[1] ^ (at ^ high_half(stamp)),
+        f[2] ^ low_half(address),
+        f[3] ^ high_half(address),
     ];
     *f = fast_round(fast_round(x));
 }

@@ -6,7 +6,6 @@
 
 ghost use Rattle.std.specs.Prelude.{◌≡◌, ◌++◌, ◌≤◌, length, drop};
 ghost use Rattle.words.specs.Bytes.{words_bytes};
-ghost use Rattle.ledger.specs.Sizes.{generator_words};
 ghost use Rattle.pool.specs.Mixing.{mix};
 ghost use Rattle.pool.specs.Extracting.{extract};
 ghost use Rattle.mixer.specs.Pools.{pool_of, shape};
@@ -14,7 +13,9 @@ ghost use Rattle.keeper.specs.Generator.{onto_key};
 ghost use Rattle.keeper.specs.Calls.{event_bytes};
 
 use generator::onto_key;
+use ledger::sizes::GENERATOR_WORDS;
 use mixer::Pool;
+use words::{high_half, low_half};
 
 // A call's bytes go into a pool.
 pub fn feed<const N: usize>(pool: &mut Pool<N>, bytes: &[u8])
@@ -29,13 +30,7 @@ pub fn feed_event<const N: usize>(pool: &mut Pool<N>, stamp: u64, at: u32, value
     ensures same_words { pool.new.words.ghost_name ≡ pool.old.words.ghost_name }
     ensures pool_after { pool_of pool.new ≡ mix (shape pool.old) (pool_of pool.old) (event_bytes stamp at value) }
 {
-    let w = [
-        (stamp % 0x1_0000_0000) as u32,
-        (stamp / 0x1_0000_0000) as u32,
-        at,
-        value,
-    ];
-    pool.mix_words(&w);
+    pool.mix_words(&[low_half(stamp), high_half(stamp), at, value]);
 }
 
 // The fast pool's words go into a pool.
@@ -47,9 +42,8 @@ pub fn spill<const N: usize>(pool: &mut Pool<N>, f: &[u32])
 }
 
 // A reseed of so many bytes; of none, nothing changes.
-pub fn reseed<const N: usize>(pool: &mut Pool<N>, g: &mut [u32], t: u32)
-    requires g_len { length g.old ≡ generator_words }
-    requires t_bound { t ≤ 32 }
+pub fn reseed<const N: usize>(pool: &mut Pool<N>, g: &mut [u32; GENERATOR_WORDS], t: u32)
+    requires { t ≤ 32 }
     ensures same_words { pool.new.words.ghost_name ≡ pool.old.words.ghost_name }
     ensures pool_after { pool_of pool.new ≡ (extract (shape pool.old) t (pool_of pool.old)).pool }
     ensures g_after { g.new ≡ onto_key (extract (shape pool.old) t (pool_of pool.old)).bytes g.old }

@@ -1,9 +1,9 @@
 // Bytes xored onto the key, little endian; a last word may be short.
 ghost use Rattle.std.specs.Prelude.{◌≡◌, ◌≤◌, length};
 ghost use Rattle.words.specs.Bytes.{le_number};
-ghost use Rattle.ledger.specs.Sizes.{generator_words};
 ghost use Rattle.keeper.specs.Generator.{onto_key};
 
+use ledger::sizes::GENERATOR_WORDS;
 use words::u32_of_bytes;
 
 // The word of four bytes, or of fewer; one that is missing counts as 0.
@@ -17,9 +17,8 @@ fn word_of(bytes: &[u8]) -> u32
 }
 
 // At most 32 bytes go onto the first bytes of the key.
-pub fn onto_key(g: &mut [u32], bytes: &[u8])
-    requires g_len { length g.old ≡ generator_words }
-    requires bytes_len_bound { length bytes.now ≤ 32 }
+pub fn onto_key(g: &mut [u32; GENERATOR_WORDS], bytes: &[u8])
+    requires { length bytes.now ≤ 32 }
     ensures { g.new ≡ onto_key bytes.now g.old }
 {
     for (i, four) in bytes.chunks(4).enumerate() {

@@ -1,5 +1,5 @@
 -- Two lists are the same where no element tells them apart.
-use mathlib.Core.Path.{◌≡◌, refl, sym, ap, ap₂, ◌∙◌}
+use mathlib.Core.Path.{◌≡◌, refl, ap, ap₂, ◌∙◌}
 use mathlib.Core.Bool.{Bool, true, false, ◌&&◌}
 use mathlib.Core.List.{List, [], ◌∷◌}
 use Prim.Native.Nat.{ℕ}
@@ -43,15 +43,6 @@ pointwise_same [] [] = refl
 pointwise_same [] (y ∷ ys) = refl
 pointwise_same (x ∷ xs) [] = refl
 pointwise_same (x ∷ xs) (y ∷ ys) = and_pick (eqb x y) (pointwise eqb xs ys) ∙ ap (λ (t : Bool). pick (eqb x y) t false) (pointwise_same xs ys)
-
--- what a comparison tells that is right both ways
-pub told_same : (a b c : List ℕ) → c ≡ b → (r : Bool) → (r ≡ true → a ≡ c) → (a ≡ c → r ≡ true) → r ≡ same a b
-told_same a b c e true f g = sym (ap (same a) (sym (f refl ∙ e)) ∙ same_self a)
-told_same a b c e false f g = by (same a b) refl
-  where
-    by : (t : Bool) → same a b ≡ t → false ≡ t
-    by true q = let z : false ≡ true = g (same_equal a b q ∙ sym e) in z
-    by false q = refl
 
 -- THE SAME of indexes: exactly equal ones
 pub index_self : (a : Index) → same_index a a ≡ true

@@ -4,7 +4,7 @@ use mathlib.Core.List.{List, [], ◌∷◌, ◌++◌}
 use Prim.Native.Nat.{ℕ, suc, ◌+◌, ◌*◌, ◌≤◌, ◌<◌, min}
 use native.Mathlib.Omega.{arith}
 use lib.ListN.{length, get_or, take, drop, length-append}
-use lib.Seq.{sets, sets-eq, length-sets, length-take-le, take_all, take-append_seam}
+use lib.Seq.{sets, sets-eq, length-take-le, take_all, take-append_seam}
 use Rattle.journal.proofs.Sides.{by_less}
 use Rattle.words.specs.Bytes.{le_bytes, words_bytes}
 use Rattle.words.proofs.Numbers.{length_le_bytes, length-words_bytes, words_bytes-suc, words_bytes-append}
@@ -19,9 +19,6 @@ one_word_more l ws at i h room e =
     let n : i + 1 ≡ suc i = omega arith in
     let k : at + 4 * i ≡ at + length (words_bytes (take i ws)) = omega (arith, length-words_bytes (take i ws), length-take-le i ws (omega arith)) in
     rw (e, n, k, words_bytes-suc ws i h) (sets-append l at (words_bytes (take i ws)) (le_bytes 4 (get_or ws i 0)))
-
-pub kept_length : (before : List ℕ) (k : ℕ) (xs : List ℕ) {after : List ℕ} → after ≡ sets before k xs → length after ≡ length before
-kept_length before k xs e = ap length e ∙ length-sets before k xs
 
 -- THE FILE, part by part: the mark and the version, the counts, the sum, the places
 module _ (ix : Index) (n : ℕ) (six : length ix.kinds ≡ 6) (all : length ix.places ≡ 138) (e : n ≡ min (used ix.kinds) 138) where

@@ -24,6 +24,8 @@ pub struct Appended {
     pub index: Index,
 }
 
+// Below, the room goes as a slice, of which parts are taken, and that it has as many bytes as a journal at the most is asked.
+//
 // Goes over the bytes to append, in the version of the journal before them, which has `len` bytes and whose index was worked out, and lays
 // them into the room. Answers the longer journal's index.
 fn extend(room: &mut [u8], len: usize, fresh: Index, more: &[u8]) -> Result<Index, Refusal>
@@ -92,7 +94,7 @@ pub fn nk_append(room: &mut [u8; LARGEST], len: usize, index: Index, more: &[u8]
     append(&index, &mut room[..], len, more)
 }
 
-// The same where the index is a file. Where it is refused, the index that is answered is that of the journal as it is.
+// The same where the index is a file, with what C's call takes and answers: one promise is said of both. Where it is refused, the index that is answered is that of the journal as it is.
 pub fn append_filed(room: &mut [u8; LARGEST], len: usize, file: &[u8], more: &[u8]) -> Appended
     ensures value { result ≡ appended (append_refused (file_agrees file.now room.old len) room.old len more.now) room.old len (fresh_in room.old len).index more.now }
     ensures room_after { room.new ≡ room_after (append_refused (file_agrees file.now room.old len) room.old len more.now) room.old len more.now }

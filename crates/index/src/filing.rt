@@ -17,8 +17,7 @@ pub const FILE_MOST: usize = PLACES_BEGIN + 4 * PLACES;
 // Words laid into a room from a place on.
 fn lay_words(words: &[u32], room: &mut [u8], at: usize)
     requires { (length words.now ≤ 138) × (at ≤ 33) }
-    ensures room_after { room.new ≡ sets room.old at (words_bytes words.now) }
-    ensures room_len_unchanged { length room.new ≡ length room.old }
+    ensures { room.new ≡ sets room.old at (words_bytes words.now) }
 {
     for (i, word) in words.iter().enumerate() {
         put_u32(room, at + 4 * i, *word);
@@ -26,10 +25,8 @@ fn lay_words(words: &[u32], room: &mut [u8], at: usize)
 }
 
 // The mark and the version.
-fn open(room: &mut [u8])
-    requires { length room.old ≡ 585 }
-    ensures room_after { room.new ≡ sets room.old 0 (78 ∷ 75 ∷ 73 ∷ 1 ∷ 0 ∷ []) }
-    ensures room_len_unchanged { length room.new ≡ length room.old }
+fn open(room: &mut [u8; FILE_MOST])
+    ensures { room.new ≡ sets room.old 0 (78 ∷ 75 ∷ 73 ∷ 1 ∷ 0 ∷ []) }
 {
     room[..5].copy_from_slice(b"NKI\x01\x00");
 }
@@ -38,37 +35,33 @@ fn open(room: &mut [u8])
 fn places_used(kinds: &[u32; KINDS]) -> usize
     ensures { (result ≡ min (used kinds.now) 138) × (result ≤ 138) }
 {
-    let n = (records(kinds) + 63) / 64;
+    let n = records(kinds).div_ceil(64);
     n.min(PLACES as u64) as usize
 }
 
 // The counts of the kinds, and the places that are used: each where it belongs.
-fn lay_kinds(kinds: &[u32; KINDS], room: &mut [u8])
-    ensures room_after { room.new ≡ sets room.old 5 (words_bytes kinds.now) }
-    ensures room_len_unchanged { (length room.new ≡ length room.old) × (length kinds.now ≡ 6) }
+fn lay_kinds(kinds: &[u32; KINDS], room: &mut [u8; FILE_MOST])
+    ensures { room.new ≡ sets room.old 5 (words_bytes kinds.now) }
 {
-    lay_words(&kinds[..], room, 5);
+    lay_words(kinds, room, 5);
 }
 
-fn lay_places(places: &[u32; PLACES], n: usize, room: &mut [u8])
+fn lay_places(places: &[u32; PLACES], n: usize, room: &mut [u8; FILE_MOST])
     requires { n ≤ 138 }
-    ensures room_after { room.new ≡ sets room.old 33 (words_bytes (take n places.now)) }
-    ensures room_len_unchanged { (length room.new ≡ length room.old) × (length places.now ≡ 138) }
+    ensures { room.new ≡ sets room.old 33 (words_bytes (take n places.now)) }
 {
     lay_words(&places[..n], room, PLACES_BEGIN);
 }
 
 // The sum of the lengths.
-fn lay_sum(reads: u32, room: &mut [u8])
-    ensures room_after { room.new ≡ sets room.old 29 (le_bytes 4 reads) }
-    ensures room_len_unchanged { length room.new ≡ length room.old }
+fn lay_sum(reads: u32, room: &mut [u8; FILE_MOST])
+    ensures { room.new ≡ sets room.old 29 (le_bytes 4 reads) }
 {
     put_u32(room, 29, reads);
 }
 
 // The file of an index laid at the start of a room, and how many bytes it has.
-fn lay_file(index: Index, room: &mut [u8]) -> usize
-    requires { length room.old ≡ 585 }
+pub fn file(index: Index, room: &mut [u8; FILE_MOST]) -> usize
     ensures room_after { (room.new ≡ sets room.old 0 (file_of index)) × (result ≡ length (file_of index)) }
     ensures upper_bound { (result ≤ 585) × (length room.new ≡ 585) }
 {
@@ -80,18 +73,11 @@ fn lay_file(index: Index, room: &mut [u8]) -> usize
     PLACES_BEGIN + 4 * n
 }
 
-pub fn file(index: Index, room: &mut [u8; FILE_MOST]) -> usize
-    ensures room_after { (room.new ≡ sets room.old 0 (file_of index)) × (result ≡ length (file_of index)) }
-    ensures upper_bound { (result ≤ 585) × (length room.new ≡ 585) }
-{
-    lay_file(index, &mut room[..])
-}
-
 // Whether a file is that of an index, to the last byte.
-pub fn same_file(file: &[u8], index: Index) -> bool
-    ensures { result ≡ same file.now (file_of index) }
+pub fn same_file(given: &[u8], index: Index) -> bool
+    ensures { result ≡ same given.now (file_of index) }
 {
     let mut room = [0u8; FILE_MOST];
-    let n = lay_file(index, &mut room);
-    check::same(file, &room[..n])
+    let n = file(index, &mut room);
+    given == &room[..n]
 }

@@ -8,7 +8,7 @@ ghost use Rattle.index.specs.Calls.{fresh_of, fresh_in, worked_out};
 
 use crate::summary::{Index, KINDS, PLACES};
 use crate::summing::add_records;
-use journal::{LARGEST, header};
+use journal::{LARGEST, header, version};
 use ledger::Refusal;
 use ledger::refusals::DONE;
 
@@ -25,11 +25,7 @@ pub fn records(kinds: &[u32; KINDS]) -> u64
     ensures value { result ≡ sum kinds.now }
     ensures upper_bound { result < 2 ^ 35 }
 {
-    let mut all: u64 = 0;
-    for count in kinds {
-        all += u64::from(*count);
-    }
-    all
+    kinds.iter().map(|&n| u64::from(n)).sum()
 }
 
 // The version of the journal that the first `len` bytes of a room are.
@@ -37,10 +33,7 @@ pub fn version_in(room: &[u8], len: usize) -> u32
     requires { len ≤ length room.now }
     ensures { result ≡ version_of (take len room.now) }
 {
-    match header(&room[..len]) {
-        Ok(h) => h.version,
-        Err(_) => 0,
-    }
+    version(&room[..len])
 }
 
 // An index of nothing.

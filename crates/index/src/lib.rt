@@ -2,8 +2,9 @@
 // the sum of the lengths that reads ask for, so that a record is found by its number without counting from the front.
 //
 // `summary` has the index as a value and `summing` adds records to it; `fresh` works it out from a journal in one pass, `filing` lays it
-// out as a file, `at_hand` has the two forms in which a call is given one. `appending` appends bytes to a journal and brings its index along, `looking` looks records up: on a room
-// of 61,440 bytes, each on an index by value (`nk_append`, `nk_look`) and on an index that is a file (`append_filed`, `look_filed`).
+// out as a file, `at_hand` has the two forms in which a call is given one. `appending` appends bytes to a journal and brings its index
+// along, `looking` looks records up: on a room of 61,440 bytes, each on an index by value (`nk_append`, `nk_look`) and on an index that is
+// a file (`append_filed`, `look_filed`).
 //
 // Each exported function takes whatever it is given, and its contract is an equation with specs/Calls.antt: what is answered, what each
 // byte of a room then is, and for every refusal that nothing moved. That the updated index is the one worked out afresh is proved in

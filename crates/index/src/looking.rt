@@ -24,11 +24,10 @@ fn pass(version: u32, j: &[u8], from: usize, n: usize) -> usize
 {
     let mut at = from;
     for _i in 0..n {
-        match read(version, j, at) {
-            Ok(Some((_, next))) => at = next,
-            Ok(None) => return at,
-            Err(_) => return at,
-        }
+        let Ok(Some((_, next))) = read(version, j, at) else {
+            return at;
+        };
+        at = next;
     }
     at
 }
@@ -130,7 +129,7 @@ pub fn nk_look(
     number_given(look_if(&index, &room[..], len, numbers, answers, found))
 }
 
-// The same where the index is a file.
+// The same where the index is a file. It answers a number and takes a room as C's call does: one promise is said of both.
 pub fn look_filed(
     room: &[u8; LARGEST],
     len: usize,

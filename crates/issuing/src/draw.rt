@@ -1,9 +1,8 @@
 // Draws from the generator: 15 bytes behind the class byte, again while the number is one that is remembered.
-ghost use Rattle.std.specs.Prelude.{◌≡◌, ◌∷◌, ◌≤◌, length};
-ghost use Rattle.ledger.specs.Sizes.{generator_words};
+ghost use Rattle.std.specs.Prelude.{◌≡◌, ◌∷◌, ◌≤◌};
 ghost use Rattle.ledger.specs.Refusals.{number_of};
 ghost use Rattle.keeper.specs.Generator.{generated};
-ghost use Rattle.desk.specs.Sizes.{drawn_bytes, number_bytes, most_draws, remembers};
+ghost use Rattle.desk.specs.Sizes.{drawn_bytes, most_draws, remembers};
 ghost use Rattle.desk.specs.Issuing.{none, handed};
 ghost use Rattle.issuing.specs.Classes.{byte_of};
 ghost use Rattle.issuing.specs.Promise.{streamed, streaming};
@@ -19,10 +18,8 @@ use ledger::{Answer, Refusal};
 
 // One draw.
 fn draw(generator: &mut [u32; GENERATOR_WORDS], class: Class) -> [u8; NUMBER_BYTES]
-    requires { length generator.old ≡ generator_words }
     ensures value { result ≡ byte_of class ∷ (generated drawn_bytes generator.old).bytes }
     ensures generator_after { generator.new ≡ (generated drawn_bytes generator.old).generator }
-    ensures result_len { length result ≡ number_bytes }
 {
     let mut number = [0u8; NUMBER_BYTES];
     number[0] = class.byte();
@@ -36,10 +33,9 @@ pub fn no_number(why: Refusal, blocks: u32, compressions: u32) -> Issued
 {
     let a = Answer {
         number: why.number(),
-        delivered: 0,
         blocks,
         compressions,
-        added: 0,
+        ..Answer::default()
     };
     Issued {
         answer: a,
@@ -56,7 +52,7 @@ fn handed(number: [u8; NUMBER_BYTES], blocks: u32, compressions: u32) -> Issued
         delivered: NUMBER_BYTES as u32,
         blocks,
         compressions,
-        added: 0,
+        ..Answer::default()
     };
     Issued { answer: a, number }
 }
@@ -68,7 +64,7 @@ pub fn draws(
     class: Class,
     compressions: u32,
 ) -> Issued
-    requires { (length generator.old ≡ generator_words) × (desk.old.count ≤ remembers) }
+    requires { desk.old.count ≤ remembers }
     ensures { streamed generator.new desk.new result ≡ streaming most_draws (byte_of class) desk.old (record { blocks = 0; compressions = compressions }) generator.old }
 {
     for repeated in 0..DRAWS {

@@ -2,7 +2,7 @@
 ghost use Rattle.std.specs.Prelude.{◌≡◌, length};
 ghost use Rattle.ledger.specs.Refusals.{number_given};
 ghost use Rattle.journal.specs.Found.{headed};
-ghost use Rattle.journal.specs.Header.{refusal_within, header_of};
+ghost use Rattle.journal.specs.Header.{version_of, refusal_within, header_of};
 
 use crate::fields::two;
 use crate::versions::known;
@@ -53,4 +53,11 @@ pub fn header(j: &[u8]) -> Result<Heading, Refusal>
         version: u32::from(two(j, 3)),
         place: RECORDS_BEGIN,
     })
+}
+
+// The version that a journal's records are read in: 0 where its header is not good.
+pub fn version(j: &[u8]) -> u32
+    ensures { result ≡ version_of j.now }
+{
+    header(j).map_or(0, |h| h.version)
 }

@@ -19,7 +19,7 @@ pub mod versions;
 pub mod writing;
 
 pub use ending::scan;
-pub use heading::{Heading, LARGEST, RECORDS_BEGIN, header};
+pub use heading::{Heading, LARGEST, RECORDS_BEGIN, header, version};
 pub use part::payload;
 pub use records::{Record, read};
 pub use versions::devices_in;

@@ -1,4 +1,4 @@
-// The records: what stands at a position of a journal, one function for each kind but the reads, which differ in nothing else. A record is
+// The records: what stands at a position of a journal, one function for each kind but the reads, which differ in their kind alone. A record is
 // read only where all its bytes are there. Only an event depends on the version; what the other functions find stands there in every version.
 ghost use Rattle.std.specs.Prelude.{◌≡◌, ℕ, ◌+◌, ◌-◌, ◌≤◌, ◌<◌, ◌⊎◌, length, drop};
 ghost use Rattle.journal.specs.Found.{found};
@@ -75,7 +75,9 @@ impl Record {
 // What stands at a position: a record and the position after it; no more bytes; or why the journal ends there.
 type Found = Result<Option<(Record, usize)>, Refusal>;
 
-// What stands at a position, in a version: any number, as the theorems have it. A walk is faster where it is a part of its caller.
+// What stands at a position, in a version: any number, as the theorems have it. A walk is faster where it is a part of its caller. Version, bytes and
+// position go side by side, here and wherever a journal is walked, as `read_at` and `walk` have them; a walk is a loop and no iterator, since it ends
+// with a refusal as well as with its records.
 #[inline(always)]
 pub fn read(version: u32, j: &[u8], at: usize) -> Found
     ensures { found result ≡ read_at version j.now at }
@@ -182,7 +184,7 @@ fn seed(j: &[u8], at: usize) -> Found
     carry(j, Record::Seed { now, len, credit }, at + 11, len)
 }
 
-// Kinds 5 and 6. The length may be any: what is too long to read is an answer of the keeper, and ends nothing.
+// Kinds 5 and 6, by the byte that stands there, as `opened` has it. The length may be any: what is too long to read is an answer of the keeper, and ends nothing.
 fn reading(kind: u8, j: &[u8], at: usize) -> Found
     requires j_len_bound { at < length j.now }
     requires kind_value { (kind ≡ 5) ⊎ (kind ≡ 6) }

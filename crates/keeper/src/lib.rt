@@ -9,7 +9,7 @@
 use ledger::sizes::{BLOCKING_WORDS, DEVICES, FAST_WORDS, GENERATOR_WORDS, INPUT_WORDS};
 
 // The record. First what is public: the ledger, and one timer a device, its last clock, its d1, its d2 and how many of its events were kept,
-// up to three. Then what is secret, but for generator words 0 to 3.
+// up to three. Then what is secret, but for generator words 0 to 3. The layout is C's (include/nk.h): a timer's four numbers stand in four arrays.
 #[repr(C)]
 #[derive(Drop)]
 pub struct Keeper {

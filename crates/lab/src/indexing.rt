@@ -34,6 +34,7 @@ fn write_index(
     j: &[u8],
     i: usize,
 ) -> Result<Status, Told> {
+    // no `?`: a journal that is refused is told by its number, and is no error
     let it = match work_out(j) {
         Ok(it) => it,
         Err(why) => return ended(rt, why.number()),

@@ -7,7 +7,8 @@
 // said to a person, `status` what it all came to.
 //
 // No contract can say what is read or written. What is written comes from functions that have one: the files from `index::file`,
-// `index::append_filed` and `convert::nk_convert`, the lines of a look-up from `looking::tell_line`, whose text specs/Looks.antt has, the sums from `listing::sums`.
+// `index::append_filed` and `convert::nk_convert`, the lines of a look-up from `looking::tell_line`, whose text specs/Looks.antt has, the sums
+// from `listing::sums`.
 #![tactic(auto)]
 
 mod appending;

@@ -14,7 +14,7 @@ use crate::numbers::{number, zeros_before};
 use crate::output::{Reader, write};
 use crate::status::{Status, ended};
 use index::{NUMBERS, look_filed};
-use journal::{header, payload, read};
+use journal::{payload, read, version};
 use ledger::refusals::DONE;
 use listing::{LONGEST_FOUND, found, gone};
 use std::ops::Range;
@@ -25,13 +25,6 @@ use transcript::text::Text;
 const WORD: usize = 256;
 
 const LINE: usize = WORD + LONGEST_FOUND + 2 * 4096;
-
-// The journal's version: 0 where its header is not good.
-fn version(j: &[u8]) -> u32
-    ensures { result ≡ version_of j.now }
-{
-    header(j).map_or(0, |h| h.version)
-}
 
 // The record at a place, in the journal's version, with the bytes that it carries, as text.
 fn tell_record(j: &[u8], place: usize, text: &mut Text)

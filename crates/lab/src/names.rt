@@ -15,7 +15,8 @@ pub fn word_at<'r>(rt: &impl Env, i: usize, room: &'r mut [u8]) -> Option<&'r [u
 // `nk: `, the longest name that a file has, and four letters behind it.
 const SAID: usize = 4 + 4096 + 4;
 
-// A file's name behind `nk: `: the start of a message about that file. The room is fixed, since the program has no heap.
+// A file's name behind `nk: `: the start of a message about that file. The room is fixed, since the program has no heap,
+// and an array with a length, since what reads an argument fills bytes that are there.
 #[derive(Clone, Copy)]
 pub struct Name {
     said: [u8; SAID],

@@ -6,7 +6,7 @@ ghost use Rattle.lab.specs.Numbers.{digit, is_number, onward, zeros_before};
 // From here on all numbers are alike: no journal has so many records.
 const ENOUGH: u32 = 100000;
 
-// What a decimal digit counts.
+// What a decimal digit counts. The library's `to_digit` is of a `char`, and these are bytes.
 pub fn count(b: u8) -> Option<u32>
     ensures { result ≡ pick (digit b) (Some (b - 48)) None }
 {
@@ -28,7 +28,7 @@ fn longer(value: u32, digit: u32) -> u32
     }
 }
 
-// The number that a word says; none where it says none.
+// The number that a word says; none where it says none. Not by the library's `parse`: a number of any length is one.
 pub fn number(word: &[u8]) -> Option<u32>
     ensures is_one { is_some result ≡ is_number word.now }
     ensures which { IfSome result (λ value. value ≡ onward 0 word.now) }

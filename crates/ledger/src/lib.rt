@@ -79,7 +79,7 @@ pub struct Credited {
 // What a call will do. Its fields are those that the rules of specs/ name, a timer and whether it is kept for one.
 #[derive(Clone, Copy, Default)]
 pub struct Plan {
-    // the number given back: done, wherever code makes a plan; what is refused has none, and the rules' idle plan tells its number
+    // the number given back: 0 in every plan that code makes; a refusal has no plan, and the rules tell its number in an idle one
     pub number: u32,
     // the ledger afterwards, but for the two spots, which follow from the bytes that are mixed
     pub ledger: Ledger,
@@ -100,7 +100,7 @@ pub struct Plan {
 }
 
 // The number given back, the bytes delivered, the work of the call: ChaCha20 blocks and SHA-1 compressions; and what its credit was worth:
-// the units that were added to a count, before any debit.
+// the units that were added to a count, before any debit. C's form (include/nk.h): the number is one, and no enum.
 #[repr(C)]
 #[derive(Clone, Copy, Default)]
 pub struct Answer {

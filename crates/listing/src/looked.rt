@@ -22,8 +22,9 @@ fn numbers(place: usize, it: Record, text: &mut Text)
     ensures put { Adds text.old text.new (spaced (done ∷ place ∷ kind_of it ∷ fields_of it)) }
     ensures upper_bound { AddsAtMost text.old text.new 147 }
 {
-    // A row for each kind: no two have the same fields.
+    // A row for each kind, since an array's length is in its type.
     let place = place as u64;
+    let kind = u64::from(it.kind());
     match it {
         Record::Event {
             now,
@@ -31,7 +32,15 @@ fn numbers(place: usize, it: Record, text: &mut Text)
             stamp,
             value,
         } => row(
-            &[0, place, 1, now as u64, device as u64, stamp, value as u64],
+            &[
+                0,
+                place,
+                kind,
+                now as u64,
+                device as u64,
+                stamp,
+                value as u64,
+            ],
             text,
         ),
         Record::Interrupt {
@@ -40,15 +49,19 @@ fn numbers(place: usize, it: Record, text: &mut Text)
             stamp,
             address,
         } => row(
-            &[0, place, 2, now as u64, number as u64, stamp, address],
+            &[0, place, kind, now as u64, number as u64, stamp, address],
             text,
         ),
-        Record::Write { now, len } => row(&[0, place, 3, now as u64, len as u64], text),
+        Record::Write { now, len } => row(&[0, place, kind, now as u64, len as u64], text),
         Record::Seed { now, len, credit } => {
-            row(&[0, place, 4, now as u64, len as u64, credit as u64], text)
+            row(
+                &[0, place, kind, now as u64, len as u64, credit as u64],
+                text,
+            )
         }
-        Record::Read { now, len } => row(&[0, place, 5, now as u64, len as u64], text),
-        Record::BlockingRead { now, len } => row(&[0, place, 6, now as u64, len as u64], text),
+        Record::Read { now, len } | Record::BlockingRead { now, len } => {
+            row(&[0, place, kind, now as u64, len as u64], text)
+        }
     }
 }
 

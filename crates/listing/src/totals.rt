@@ -10,7 +10,7 @@ use transcript::text::Text;
 // No three lines are longer. `specs/Listing.antt` names it too.
 pub const LONGEST_SUMS: usize = 188;
 
-// How many records there are of all kinds. Six counts can add up to more than a u32 holds. `index` has the same chain: this crate does not stand on it.
+// How many records there are of all kinds. Six counts can add up to more than a u32 holds. `index` has the same sum: this crate does not stand on it.
 fn records(kinds: &[u32]) -> u64
     requires { length kinds.now < 2 ^ 32 }
     ensures { result ≡ sum kinds.now }

@@ -14,7 +14,7 @@ use crate::pools::Pool;
 use secure_hash::{compress, initial_hash};
 use words::{bytes_of_u32, put_u32, rotate_left, swap_bytes};
 
-// The 16 words from k on, each with its bytes swapped: a block as SHA-1 reads it.
+// The 16 words from k on, each with its bytes swapped: a block as SHA-1 reads it. By index, since it goes over two lists.
 fn message(ws: &[u32], k: usize) -> [u32; 16]
     requires { k + 16 ≤ length ws.now }
     ensures { result ≡ map swapped (take 16 (drop k ws.now)) }

@@ -80,7 +80,7 @@ fn status_wanted(rt: &impl Env) -> bool {
     matches!(word_at(rt, 1, &mut [0u8; 64]), Some(b"--status-on-9"))
 }
 
-// How many arguments there are, the program's own name among them.
+// How many arguments there are, the program's own name among them. One by one: the library's list of them is made on a heap.
 fn arg_count(rt: &impl Env) -> usize {
     for i in 0..usize::MAX {
         if let Err(FillError::NotPresent) = rt.arg(i, &mut []) {

@@ -11,7 +11,7 @@ pub const ROOM: usize = 65536;
 const MOST_BEFORE_A_LINE: usize = ROOM - LONGEST_LINE;
 
 // The position after the last turn, whether there is more, and how many bytes of the room are lines. No Option in place of the flag: the position is
-// told where the replay ended too.
+// told where the replay ended too, as `batch_of` of specs/Batches.antt has it.
 #[derive(Clone, Copy, Debug, PartialEq, Eq)]
 pub struct Batch {
     pub at: usize,
@@ -19,8 +19,8 @@ pub struct Batch {
     pub count: usize,
 }
 
-// Takes turns in a journal of a version until the replay ends or a further line might not fit, and lays their lines one behind another at the room's start. What
-// stands behind them stays as it was.
+// Takes turns in a journal of a version until the replay ends or a further line might not fit, and lays their lines one behind another at the room's
+// start. What stands behind them stays as it was.
 pub fn fill_room(version: u32, j: &[u8], at: usize, k: &mut Keeper, room: &mut [u8; ROOM]) -> Batch
     ensures { Laid (batch_of version j.now at k.old) k.new result room.old room.new }
 {

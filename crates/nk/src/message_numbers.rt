@@ -66,6 +66,7 @@ pub fn issue(
     let first = words.start;
     let classes = first + 2..words.end;
     let clock = clock_at(rt, first + 1)?;
+    // the same words again: a range is used up where it is gone over
     check_classes(rt, first + 2..words.end)?;
     let mut room = [0u8; MOST];
     let j = bring(rt, first, &mut room)?;

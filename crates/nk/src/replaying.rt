@@ -55,6 +55,7 @@ fn hand_over_all(
     requires { done.old ≡ 0 }
     ensures { result ≡ Ok Listening → done.new ≡ length (texts_of j.now) }
 {
+    // no `?`: a refusal is written, and no error
     let h = match header(j) {
         Ok(h) => h,
         Err(why) => return refuse(rt, j, done, why),

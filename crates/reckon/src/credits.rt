@@ -14,7 +14,8 @@ fn turn_takes(size: u32, rest: u32) -> u32
     rest.min(size / 2)
 }
 
-// What a turn adds to the count, which is no more than there is room for.
+// What a turn adds to the count, which is no more than there is room for. Size and count go side by side, here and below, as the rules have them: a
+// struct that keeps the one within the other would be made and proved anew at each turn.
 fn turn_adds(size: u32, count: u32, rest: u32) -> u32
     requires { Within size count }
     ensures value { result ≡ turn_adds size count rest }

@@ -1,7 +1,7 @@
 // The sums of the public half, in code: `credits` has crediting and debiting, `clocks` the differences of clocks and the bits that an
 // event earns, `timers` a device's timer in the table, `range` the range test. No function here has a secret among its parameters.
 //
-// Each contract is one equation with the definition of the same name in `ledger`. A `requires` stands only on what proved code alone
+// Each contract is one equation with a definition of `ledger`, mostly one of the same name. A `requires` stands only on what proved code alone
 // reaches, after the range test: a count within its size, a timer in range.
 #![tactic(auto)]
 

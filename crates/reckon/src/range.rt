@@ -99,7 +99,8 @@ fn differences_in_range(firsts: &[i64], seconds: &[i64]) -> bool
     )
 }
 
-// Every device's count of kept events, in a pass of its own, since they are bytes: the greatest of them tells.
+// Every device's count of kept events, in a pass of its own, since they are bytes: the greatest of them tells. A loop: the
+// greatest of an iterator is an Option.
 fn counts_in_range(came: &[u8]) -> bool
     ensures { result ≡ every came_in_range came.now }
 {

@@ -1,5 +1,5 @@
 // One record run on a keeper.
-ghost use Rattle.std.specs.Prelude.{◌≡◌, ◌+◌, min, length};
+ghost use Rattle.std.specs.Prelude.{◌≡◌, ◌+◌, min};
 ghost use Rattle.ledger.specs.Sizes.{longest};
 ghost use Rattle.keeper.specs.Calls.{generator_read, blocking_read_of};
 ghost use Rattle.steps.specs.Promise.{left, leaves};
@@ -21,9 +21,8 @@ fn room_for(len: u32) -> usize
     (len as usize).min(OUT_ROOM)
 }
 
-// A generator read of len bytes.
-fn read_into(k: &mut Keeper, at: u32, out: &mut [u8], len: u32) -> Answer
-    requires { length out.old ≡ longest + 1 }
+// A generator read of len bytes. Two functions, this and the next: one for both would be told which to call, and they share no more than the length.
+fn read_into(k: &mut Keeper, at: u32, out: &mut [u8; OUT_ROOM], len: u32) -> Answer
     ensures { left k.new result out.new ≡ leaves k.old (generator_read at len) out.old }
 {
     let n = room_for(len);
@@ -31,8 +30,7 @@ fn read_into(k: &mut Keeper, at: u32, out: &mut [u8], len: u32) -> Answer
 }
 
 // A blocking read of len bytes.
-fn blocking_read_into(k: &mut Keeper, out: &mut [u8], len: u32) -> Answer
-    requires { length out.old ≡ longest + 1 }
+fn blocking_read_into(k: &mut Keeper, out: &mut [u8; OUT_ROOM], len: u32) -> Answer
     ensures { left k.new result out.new ≡ leaves k.old (blocking_read_of len) out.old }
 {
     let n = room_for(len);
@@ -56,9 +54,8 @@ pub fn run(
     it: Record,
     next: usize,
     k: &mut Keeper,
-    out: &mut [u8],
+    out: &mut [u8; OUT_ROOM],
 ) -> Answer
-    requires { length out.old ≡ longest + 1 }
     ensures { left k.new result out.new ≡ leaves k.old (call_with version (carried_by j.now it next) it) out.old }
 {
     match it {

@@ -38,7 +38,7 @@ pub fn take_turn(
 {
     match read(version, j, at) {
         Ok(Some((it, next))) => {
-            let a = run(version, j, it, next, k, &mut out[..]);
+            let a = run(version, j, it, next, k, out);
             let len = line_with(a, k.ledger, &out[..], &mut room[..]);
             Turn {
                 next: Some(next),

@@ -45,7 +45,8 @@ pub fn of_twenty<const P: usize>(s: [u32; 5], t: usize, w: &[u32; 16]) -> [u32; 
     step::<P>(s3, w[a + 3])
 }
 
-// The four steps from step t on, whichever twenty they are of.
+// The four steps from step t on, whichever twenty they are of: tested at each four, since in a loop for each twenty a compression takes longer
+// (docs/DECISIONS.md).
 pub fn four(s: [u32; 5], t: usize, w: &[u32; 16]) -> [u32; 5]
     requires { (t < 80) × (t % 4 ≡ 0) }
     ensures { result ≡ run t (drop (t % 16) w.now) 4 s }

@@ -12,10 +12,7 @@ pub fn bare(number: u32) -> Answer
 {
     Answer {
         number,
-        delivered: 0,
-        blocks: 0,
-        compressions: 0,
-        added: 0,
+        ..Answer::default()
     }
 }
 

@@ -1,6 +1,6 @@
 // The calls, as functions on the keeper's record, which is lent. Each goes in two strokes: `decide` makes a plan from public numbers, or says why the
 // call is refused, and the plan is carried out on the record: its ledger becomes the record's, its bytes go in and out, and a pool's spot moves on. A
-// refusal is carried out by storing the ledger as it is, and returning.
+// refusal is carried out by storing the ledger as it is, and returning its number: so there is no `?`, which would hand an `Err` on.
 //
 // The contract of each is one equation with specs/Promise.antt over the whole record, the answer and the output room, for all inputs.
 //

@@ -80,7 +80,7 @@ pub fn make_on(k: &mut Keeper, start: &[u8]) -> Answer
     if start.len() != START_BYTES {
         return refused(k, Refusal::StartNot48);
     }
-    // first, so that no start byte has to wait on the stack
+    // first, so that no start byte has to wait on the stack; and array by array, since a keeper made as one value would stand there whole
     k.generator = first_words(start);
     k.clocks = [0u32; DEVICES];
     k.firsts = [0i64; DEVICES];

@@ -35,7 +35,7 @@ impl<'a> Text<'a> {
         Text { room, at: 0 }
     }
 
-    // How many bytes of the room the text takes.
+    // How many bytes of the room the text takes. A length and no part of the room: what is promised of lines is said of the whole room.
     pub fn len(&self) -> usize
         ensures { result ≡ self.now.at }
     {
@@ -61,7 +61,7 @@ impl<'a> Text<'a> {
         self.at = end;
     }
 
-    // n in decimal: ten digits at most. A function for each type, since the most digits are the type's: one for both would leave them to its callers.
+    // n in decimal: ten digits at most. A function for each type: the rules tell a decimal with its width, ten digits or twenty.
     pub fn number(&mut self, n: u32)
         requires { HasRoom self.old 10 }
         ensures put { Adds self.old self.new (decimal_of n) }

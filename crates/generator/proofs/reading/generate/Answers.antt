@@ -10,11 +10,11 @@ returns-then-len-eq0 c = let a = c.args in
     let none = read_none a.out.now a.g.now c.if-len-eq0.true in
     record { out_after = none.0; g_after = none.1 }
 
-pub slice_bounds-onto_key-end-then-used-gt64 : goal.slice_bounds-onto_key-end-then-used-gt64
-slice_bounds-onto_key-end-then-used-gt64 c = omega (arith, length-take-le 32 c.next_block.new.room (omega arith))
+pub slice_bounds-onto_key-end : goal.slice_bounds-onto_key-end
+slice_bounds-onto_key-end c = omega (arith, length-take-le 32 c.next_block.new.room (omega arith))
 
-pub onto_key-requires-clause-bytes_len_bound : goal.onto_key-requires-clause-bytes_len_bound
-onto_key-requires-clause-bytes_len_bound c = omega (arith, length-take-le 32 c.next_block.new.room (omega arith))
+pub onto_key-requires : goal.onto_key-requires
+onto_key-requires c = omega (arith, length-take-le 32 c.next_block.new.room (omega arith))
 
 pub returns-then-used-gt64 : goal.returns-then-used-gt64
 returns-then-used-gt64 c = let g = c.args.g.now in

@@ -1,11 +1,13 @@
+use mathlib.Core.Path.{◌≡◌}
 use native.Mathlib.Omega.{arith}
-use Rattle.index.proofs.Six.{one_less, none_more}
+use borrow.Author.Rules.{rules}
+use Rattle.journal.specs.Layout.{sum}
+use Rattle.index.proofs.Six.{sum_is, sum_at_most, sum_small}
 use Rattle.index.proofs.fresh.records.Goals as goal
 
-pub loop-count-preserved : goal.loop-count-preserved
-loop-count-preserved c = let i = c.loop-count.count-index in
-    (omega (arith, c.loop-count.invariant.0, one_less c.args.kinds.now i (omega arith)), omega (arith, c.loop-count.invariant.1))
+pub sum-requires-clause-fits : goal.sum-requires-clause-fits
+sum-requires-clause-fits c = search (rules, sum_small c.args.kinds.now (λ i. omega (arith, c.fits-kinds i)) c.told-kinds)
 
 pub returns : goal.returns
-returns c = let i = c.loop-count.count-index in
-    record { value = omega (arith, c.loop-count.invariant.0, none_more c.args.kinds.now i (omega arith)); upper_bound = omega (arith, c.loop-count.invariant.1) }
+returns c = let all : c.sum.result ≡ sum c.args.kinds.now = rw (← sum_is c.args.kinds.now) (search rules) in
+    record { value = all; upper_bound = omega (arith, all, c.told-kinds, sum_at_most c.args.kinds.now (λ i. omega (arith, c.fits-kinds i))) }

@@ -1,6 +1,7 @@
 use mathlib.Core.Path.{◌≡◌, refl, sym, ◌∙◌}
 use Prim.Native.Nat.{◌-◌}
 use native.Mathlib.Omega.{arith}
+use Rattle.std.proofs.Common.{None, rules}
 use Rattle.journal.proofs.Onward.{read_ahead}
 use Rattle.index.proofs.Passing.{passed-stop, passed_end, one_fewer, none_left}
 use Rattle.index.proofs.looking.pass.Goals as goal
@@ -14,12 +15,14 @@ loop-i-preserved c = let e = rw c.in-Ok-Some.field-0-is at c.in-Ok-Some.ensures 
     let h = (read_ahead _ _ _ _ _ (sym e)).1 in
     (one_fewer _ _ _ _ _ _ _ _ (omega arith) (sym e) c.loop-i.invariant.0, omega (arith, h))
 
-pub returns-in-Ok-None : goal.returns-in-Ok-None
-returns-in-Ok-None c = let e = rw c.in-Ok-None.field-0-is at c.in-Ok-None.ensures in
+pub returns-in_default : goal.returns-in_default
+returns-in_default c = let none : c.in_default.field-0 ≡ None = search rules in
+    let e = rw (c.in_default.is, none) at c.read.ensures in
     record { value = sym (passed_end _ _ _ _ (sym e)) ∙ c.loop-i.invariant.0; upper_bound = c.loop-i.invariant.1 }
 
-pub returns-in-Err : goal.returns-in-Err
-returns-in-Err c = record { value = sym (passed-stop _ _ _ _ _ (sym c.in-Err.ensures)) ∙ c.loop-i.invariant.0; upper_bound = c.loop-i.invariant.1 }
+pub returns-in_default-2 : goal.returns-in_default-2
+returns-in_default-2 c = let e = rw c.in_default.is at c.read.ensures in
+    record { value = sym (passed-stop _ _ _ _ _ (sym e)) ∙ c.loop-i.invariant.0; upper_bound = c.loop-i.invariant.1 }
 
 pub returns : goal.returns
 returns c = record { value = none_left _ _ _ _ _ _ (omega arith) c.loop-i.invariant.0; upper_bound = c.loop-i.invariant.1 }

@@ -6,7 +6,6 @@ use Rattle.std.proofs.Common.{Err}
 use Rattle.ledger.specs.declared.refusals.Refusal.TheVariants.{NoSuchClass}
 use Rattle.ledger.specs.PublicCalls.{read}
 use Rattle.ledger.proofs.SmallPlans.{small}
-use Rattle.keeper.proofs.Counter.{key_length}
 use Rattle.steps.proofs.Accepted.{so, in_pools, refused_other, ReadPlan, read_plan_lem}
 use Rattle.steps.proofs.Strokes.{lent_as, spots, decided, read_untimed}
 use Rattle.issuing.proofs.Passes.{byte_other}
@@ -34,15 +33,13 @@ pub new-input-requires : goal.new-input-requires
 new-input-requires c = (omega arith, (omega arith, rw (spots _ _ _ _ _ c.in_ok-p.ensures.value).input (in_pools _ _ _ _ _ c.in_ok-p.ensures.value c.in_ok-p.ensures.ok).input))
 
 pub reseed-requires : goal.reseed-requires
-reseed-requires c = (omega arith, (search rules, rw c.in_ok-p.ensures.value (small _ _ _ _).reseed))
+reseed-requires c = (omega arith, rw c.in_ok-p.ensures.value (small _ _ _ _).reseed)
 
 pub answer_of-a-requires : goal.answer_of-a-requires
 answer_of-a-requires c = rw c.in_ok-p.ensures.value (small _ _ _ _)
 
 pub draws-requires : goal.draws-requires
-draws-requires c =
-    let key : length c.args.k.now.generator ≡ 16 = search rules in
-    (ap length c.reseed.ensures.g_after ∙ key_length _ _ ∙ key, counted _ _ _ _ c.in_range.ensures (ap not c.if-not-in_range.false))
+draws-requires c = counted _ _ _ _ c.in_range.ensures (ap not c.if-not-in_range.false)
 
 pub returns : goal.returns
 returns c =

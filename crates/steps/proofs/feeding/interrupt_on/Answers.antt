@@ -6,7 +6,6 @@ use Rattle.keeper.specs.Calls.{interrupted}
 use Rattle.steps.proofs.Accepted.{so, in_pools, refused_other, InterruptPlan, interrupt_plan}
 use Rattle.steps.proofs.Strokes.{lent_as, spots, decided, interrupt_untimed, refusal, interrupt-stays, interrupt-done}
 use borrow.Author.Tests.{not-true, not-false}
-use borrow.Author.Rules.{rules}
 use Rattle.steps.proofs.feeding.interrupt_on.Goals as goal
 
 pub returns-in-Err : goal.returns-in-Err
@@ -24,7 +23,7 @@ pub new-input-requires : goal.new-input-requires
 new-input-requires c = (omega arith, (omega arith, rw (spots _ _ _ _ _ c.in-Ok.ensures.value).input (in_pools _ _ _ _ _ c.in-Ok.ensures.value c.in-Ok.ensures.ok).input))
 
 pub reseed-requires : goal.reseed-requires
-reseed-requires c = (omega arith, (search rules, rw c.in-Ok.ensures.value (small _ _ _ _).reseed))
+reseed-requires c = (omega arith, rw c.in-Ok.ensures.value (small _ _ _ _).reseed)
 
 pub answer_of-requires-2 : goal.answer_of-requires-2
 answer_of-requires-2 c = rw c.in-Ok.ensures.value (small _ _ _ _)

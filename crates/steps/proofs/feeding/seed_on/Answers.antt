@@ -5,7 +5,6 @@ use Rattle.ledger.proofs.SmallPlans.{small}
 use Rattle.keeper.specs.Calls.{seeded_with}
 use Rattle.steps.proofs.Accepted.{so, in_pools, refused_other, FedPlan, seed_plan}
 use Rattle.steps.proofs.Strokes.{lent_as, spots, decided, seed_untimed, refusal, seed-done}
-use borrow.Author.Rules.{rules}
 use Rattle.steps.proofs.feeding.seed_on.Goals as goal
 
 pub returns-in-Err : goal.returns-in-Err
@@ -15,7 +14,7 @@ pub new-input-requires : goal.new-input-requires
 new-input-requires c = (omega arith, (omega arith, rw (spots _ _ _ _ _ c.in-Ok.ensures.value).input (in_pools _ _ _ _ _ c.in-Ok.ensures.value c.in-Ok.ensures.ok).input))
 
 pub reseed-requires : goal.reseed-requires
-reseed-requires c = (omega arith, (search rules, rw c.in-Ok.ensures.value (small _ _ _ _).reseed))
+reseed-requires c = (omega arith, rw c.in-Ok.ensures.value (small _ _ _ _).reseed)
 
 pub answer_of-requires : goal.answer_of-requires
 answer_of-requires c = rw c.in-Ok.ensures.value (small _ _ _ _)

@@ -15,7 +15,7 @@ pub new-input-requires : goal.new-input-requires
 new-input-requires c = (omega arith, (omega arith, rw (spots _ _ _ _ _ c.in-Ok.ensures.value).input (in_pools _ _ _ _ _ c.in-Ok.ensures.value c.in-Ok.ensures.ok).input))
 
 pub reseed-requires : goal.reseed-requires
-reseed-requires c = (omega arith, (search rules, rw c.in-Ok.ensures.value (small _ _ _ _).reseed))
+reseed-requires c = (omega arith, rw c.in-Ok.ensures.value (small _ _ _ _).reseed)
 
 pub generate-requires : goal.generate-requires
 generate-requires c = (so (ReadPlan _) c.in-Ok.ensures.value (read_plan_lem _ _ _ _ _) c.in-Ok.ensures.ok).short
