@@ -60,3 +60,8 @@ index_equal a b h =
     let s = eqb-true a.reads b.reads (and_right (same a.kinds b.kinds) (eqb a.reads b.reads) r) in
     let e : index a.places a.kinds a.reads ≡ index b.places b.kinds b.reads = rw (p, k, s) refl in
     e
+
+-- .. so what is derived for an index tells whether it is the same
+pub derived : (a b : Index) → (pointwise eqb a.places b.places && (pointwise eqb a.kinds b.kinds && eqb a.reads b.reads)) ≡ same_index a b
+unfolding same_index
+derived a b = rw (pointwise_same a.places b.places, pointwise_same a.kinds b.kinds) refl

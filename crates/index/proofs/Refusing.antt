@@ -1,7 +1,7 @@
 -- What is refused, test by test.
 use mathlib.Core.Path.{◌≡◌, refl, sym, ap, ◌∙◌}
 use mathlib.Core.Bool.{Bool, true, false}
-use mathlib.Core.List.{List, [], ◌∷◌}
+use mathlib.Core.List.{List, [], ◌∷◌, ◌++◌}
 use Prim.Native.Nat.{ℕ, ◌≤◌, ◌<◌}
 use native.Mathlib.Omega.{arith}
 use borrow.Author.Tests.{eq-eqb, ne_eqb, eqb-true, lt-ltb, le-ltb}
@@ -12,9 +12,10 @@ use Rattle.ledger.specs.Numbers.{journal_too_large, index_differs, too_long}
 use Rattle.ledger.proofs.Picks.{pick_by}
 use Rattle.journal.specs.Header.{largest}
 use Rattle.journal.specs.Walking.{ending_of}
-use Rattle.journal.proofs.Sides.{by_less}
+use Rattle.journal.proofs.Sides.{by_less, by_same}
 use Rattle.index.specs.Summary.{index_of}
-use Rattle.index.specs.Calls.{ending_in, fresh_of, fresh_in, most_numbers, look_refused}
+use Rattle.index.specs.Calls.{ending_in, fresh_of, fresh_in, most_numbers, append_refused, look_refused}
+use Rattle.index.specs.declared.summary.Index.{Index}
 use Rattle.index.specs.declared.fresh.Fresh.{Fresh}
 
 -- ---- the first number that is not 0
@@ -58,6 +59,15 @@ module _ (room : List ℕ) (n : ℕ) where
     pub found_index : found.number ≡ 0 → found.index ≡ index_of (take n room)
     found_index z = ap (λ (x : Fresh). x.index) known ∙ index_in (sym ends ∙ z)
 
+    -- an index is tested where there is one: what it is tested against has no say before
+    pub tested : (test : Index → Bool) (c : ℕ)
+        → first (ending_in room n ∷ pick (test found.index) 0 index_differs ∷ c ∷ []) ≡ first (ending_in room n ∷ pick (test (index_of (take n room))) 0 index_differs ∷ c ∷ [])
+    tested test c =
+        by_same found.number 0
+        (λ z. ap (λ (x : Index). first (ending_in room n ∷ pick (test x) 0 index_differs ∷ c ∷ [])) (found_index z))
+        (λ h. let e : ending_in room n ≡ 0 → ⊥ = (λ q. h (ends ∙ q)) in
+        sym (first_of (ending_in room n) (pick (test found.index) 0 index_differs) c e) ∙ first_of (ending_in room n) (pick (test (index_of (take n room))) 0 index_differs) c e)
+
     module _ (good : Bool) (c : ℕ) where
       abbrev All : ℕ
       All = first (ending_in room n ∷ pick good 0 index_differs ∷ c ∷ [])
@@ -86,3 +96,13 @@ module _ (room : List ℕ) (n : ℕ) where
       few_enough h =
           let t : pick (ltb most_numbers (length numbers)) too_long 0 ≡ 0 = rw (le-ltb most_numbers (length numbers) h) refl in
           sym t ∙ by_last good (pick (ltb most_numbers (length numbers)) too_long 0) z g
+
+    -- the test that was made, against the index that was worked out, is the one against the journal's own, in both calls and of whatever index is at hand
+    module _ (test : Index → Bool) where
+      pub append_tested : (more : List ℕ) → append_refused (test found.index) room n more ≡ append_refused (test (index_of (take n room))) room n more
+      unfolding append_refused
+      append_tested more = tested test (ending_of (take n room ++ more))
+
+      pub look_tested : (numbers : List ℕ) → look_refused (test found.index) room n numbers ≡ look_refused (test (index_of (take n room))) room n numbers
+      unfolding look_refused
+      look_tested numbers = tested test (pick (ltb most_numbers (length numbers)) too_long 0)

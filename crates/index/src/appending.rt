@@ -13,6 +13,7 @@ use crate::summing::add_records;
 use journal::LARGEST;
 use ledger::Refusal;
 use ledger::refusals::DONE;
+use words::lay_bytes;
 
 // What came of appending: 0, and the longer journal's length and index; or the number that refused it, and both as they were. C's form
 // (include/nk_index.h).
@@ -41,7 +42,7 @@ fn extend(room: &mut [u8], len: usize, fresh: Index, more: &[u8]) -> Result<Inde
     let count = records(&fresh.kinds) as usize;
     let mut index = fresh;
     add_records(version, more, 0, len, count, &mut index)?;
-    room[len..len + more.len()].copy_from_slice(more);
+    lay_bytes(room, len, more);
     Ok(index)
 }
 

@@ -65,7 +65,8 @@ pub fn draws(
     compressions: u32,
 ) -> Issued
     requires { desk.old.count ≤ remembers }
-    ensures { streamed generator.new desk.new result ≡ streaming most_draws (byte_of class) desk.old (record { blocks = 0; compressions = compressions }) generator.old }
+    ensures value { streamed generator.new desk.new result ≡ streaming most_draws (byte_of class) desk.old (record { blocks = 0; compressions = compressions }) generator.old }
+    ensures drew { 1 ≤ result.answer.blocks }
 {
     for repeated in 0..DRAWS {
         let number = draw(generator, class);

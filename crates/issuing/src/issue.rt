@@ -1,5 +1,5 @@
 // The desk call on the keeper and the desk.
-ghost use Rattle.std.specs.Prelude.{◌≡◌, ◌&&◌, leb};
+ghost use Rattle.std.specs.Prelude.{◌≡◌, ◌&&◌, ◌≤◌, leb, IfOk};
 ghost use Rattle.ledger.specs.Range.{ledger_in_range};
 ghost use Rattle.desk.specs.Sizes.{remembers};
 ghost use Rattle.desk.specs.Issuing.{left_with, issue};
@@ -23,9 +23,11 @@ fn in_range(others: bool, l: Ledger, count: u32) -> bool
     (ledger_in_range(l) & others) & (count <= REMEMBERED)
 }
 
-// 17, then 13, then what the keeper says of a read; and then the draws, for which it is decided once.
+// 17, then 13, then what the keeper says of a read; and then the draws, for which it is decided once. What is `Ok` was drawn, so no refusal that
+// comes before the first draw is told as one.
 fn drawn(k: &mut Keeper, desk: &mut Desk, at: u32, field: &[u8]) -> Result<Issued, Refusal>
-    ensures { left_with k.new desk.new (handed_back result) ≡ issue k.old desk.old at field.now }
+    ensures value { left_with k.new desk.new (handed_back result) ≡ issue k.old desk.old at field.now }
+    ensures ok { IfOk result (λ issued. 1 ≤ issued.answer.blocks) }
 {
     let others = others_in_range(k);
     if !in_range(others, k.ledger, desk.count) {

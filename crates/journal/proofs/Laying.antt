@@ -2,11 +2,10 @@
 -- of each kind. Each law has the direction of the goal that it closes.
 use mathlib.Core.Path.{◌≡◌, refl, sym, ap, ◌∙◌}
 use mathlib.Core.List.{List, [], ◌∷◌, ◌++◌, append-nil, append_assoc}
-use Prim.Native.Nat.{ℕ, zero, suc, ◌+◌, ◌-◌, ◌/◌, ◌%◌, ◌≤◌}
+use Prim.Native.Nat.{ℕ, zero, suc, ◌+◌, ◌/◌, ◌%◌, ◌≤◌}
 use native.Mathlib.Omega.{arith}
-use borrow.Rule.Slice.PartMut.{put_mid}
 use lib.ListN.{length, set, take, length-append}
-use lib.Seq.{sets, sets-eq, drop-drop}
+use lib.Seq.{sets}
 use Rattle.words.specs.Bytes.{le_bytes}
 use Rattle.words.proofs.Numbers.{length_le_bytes}
 use Rattle.words.proofs.Rooms.{sets-append}
@@ -18,13 +17,6 @@ use Rattle.journal.specs.declared.records.Record.TheVariants.{Event, Interrupt, 
 -- bytes, and others behind them
 pub then : (a b c : List ℕ) (at m : ℕ) (s t : List ℕ) → b ≡ sets a at s → m ≡ at + length s → c ≡ sets b m t → c ≡ sets a at (s ++ t)
 then a b c at m s t p e q = q ∙ rw (p, e) (sets-append a at s t)
-
--- ---- bytes copied as they are
-pub copied : (room bytes new : List ℕ) (at : ℕ) → at + length bytes ≤ length room → new ≡ bytes
-    → put_mid at (at + length bytes - at) room new ≡ sets room at bytes
-copied room bytes new at h e =
-    let k : at + length bytes - at ≡ length bytes = omega arith in
-    rw (e, k, drop-drop (length bytes) at room, sets-eq bytes room at h, append_assoc)
 
 -- ---- a number's lowest bytes
 pub lowest : (n m x : ℕ) → n ≤ m → take n (le_bytes m x) ≡ le_bytes n x

@@ -7,17 +7,15 @@ ghost use Rattle.journal.specs.Writing.{laid, head_of, bytes_of, header_for};
 
 use crate::records::Record;
 use crate::versions::device_bytes;
-use words::bytes_of_u64;
+use words::{bytes_of_u64, lay_bytes};
 
 // Bytes as they are.
-#[tactic(auto, using(crate::proofs::Laying::copied))]
 fn lay(bytes: &[u8], room: &mut [u8], at: usize) -> usize
     requires { at + length bytes.now ≤ length room.old }
     ensures { (room.new ≡ sets room.old at bytes.now) × (result ≡ at + length bytes.now) }
 {
-    let end = at + bytes.len();
-    room[at..end].copy_from_slice(bytes);
-    end
+    lay_bytes(room, at, bytes);
+    at + bytes.len()
 }
 
 // A number in so many bytes, the lowest first.

@@ -119,5 +119,9 @@ zeros_least (b ∷ c ∷ bs) = by (eqb b 48) refl (zeros_least (c ∷ bs))
     by false e r = rw (take_while-cons (λ x. eqb x 48) b (c ∷ bs), e) (omega arith)
 
 -- ---- two letters that are left
+-- of letters that are more than one, a second
+pub more : (w : List ℕ) (i : ℕ) → i < length w → (length w - i ≡ 1 → ⊥) → suc i < length w
+more w i h n = by_less (suc i) (length w) (λ l. l) (λ l. absurd (n (omega (arith, h, l))))
+
 pub two_left : (w : List ℕ) (i : ℕ) → suc i < length w → drop i w ≡ get_or w i 0 ∷ (get_or w (suc i) 0 ∷ drop (suc (suc i)) w)
 two_left w i h = drop-cons w i 0 (omega (arith, h)) ∙ ap (λ (r : List ℕ). get_or w i 0 ∷ r) (drop-cons w (suc i) 0 h)

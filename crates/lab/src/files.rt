@@ -61,7 +61,9 @@ pub fn bring<'r>(
 }
 
 // The same; of a file that cannot be read there are no bytes, and nothing is said.
-pub fn glimpse<'r>(rt: &(impl Env + Files), i: usize, room: &'r mut [u8]) -> &'r [u8] {
+pub fn glimpse<'r>(rt: &(impl Env + Files), i: usize, room: &'r mut [u8]) -> &'r [u8]
+    ensures { length result.now ≤ length room.old }
+{
     let Some(name) = Name::find(rt, i, b"") else {
         return &[];
     };

@@ -21,21 +21,30 @@ pub fn initial_hash() -> [u32; 5]
     ]
 }
 
-// The hash value after the block m, from the hash value h. Before step 64 the ring has the last of the words, and from there on it is left as it is.
+// The hash value after the block that the ring holds, from the hash value h. The ring is lent, so that whoever lends it can lay something else over
+// what a block leaves there: words of the schedule, from sixteen of which the block could be worked out. Before step 64 it has the last of the words,
+// and from there on it is left as it is.
+pub fn compress_in(h: [u32; 5], w: &mut [u32; 16]) -> [u32; 5]
+    ensures { result ≡ compressed h w.old }
+{
+    let mut s = h;
+    for t in (0..64).step_by(4) {
+        // by way of `r`: the prover does not follow an array from a call straight into a variable that stands already
+        let r = four(s, t, w);
+        s = r;
+        next_four(w, t);
+    }
+    for t in (64..80).step_by(4) {
+        let r = of_twenty::<3>(s, t, w);
+        s = r;
+    }
+    add_words(s, h)
+}
+
+// The hash value after the block m, in a ring of its own.
 pub fn compress(h: [u32; 5], m: [u32; 16]) -> [u32; 5]
     ensures { result ≡ compressed h m }
 {
     let mut w = m;
-    let mut s = h;
-    for t in (0..64).step_by(4) {
-        // by way of `r`: the prover does not follow an array from a call straight into a variable that stands already
-        let r = four(s, t, &w);
-        s = r;
-        next_four(&mut w, t);
-    }
-    for t in (64..80).step_by(4) {
-        let r = of_twenty::<3>(s, t, &w);
-        s = r;
-    }
-    add_words(s, h)
+    compress_in(h, &mut w)
 }

@@ -12,4 +12,4 @@ pub mod blocks;
 mod ring;
 mod steps;
 
-pub use blocks::{compress, initial_hash};
+pub use blocks::{compress, compress_in, initial_hash};

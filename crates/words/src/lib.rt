@@ -20,5 +20,5 @@ pub use bytes::{
     bytes_of_u16, bytes_of_u32, bytes_of_u64, swap_bytes, u16_of_bytes, u32_of_bytes, u64_of_bytes,
 };
 pub use halves::{high_half, low_half};
-pub use room::{put_bytes, put_u32};
+pub use room::{lay_bytes, put_bytes, put_u32};
 pub use turn::rotate_left;

@@ -1,5 +1,5 @@
 // Bytes laid into a room that is lent. What would lie past the room's end is dropped.
-ghost use Rattle.std.specs.Prelude.{◌≡◌, ◌+◌, slice_set};
+ghost use Rattle.std.specs.Prelude.{◌≡◌, ◌+◌, ◌≤◌, length, slice_set};
 ghost use Rattle.std.proofs.lemmas.List.Edits.{sets};
 ghost use Rattle.words.specs.Bytes.{le_bytes};
 
@@ -22,6 +22,18 @@ pub fn put_bytes(out: &mut [u8], at: usize, bytes: &[u8])
 {
     for (k, b) in bytes.iter().enumerate() {
         put_byte(out, at, k, *b);
+    }
+}
+
+// Bytes laid over a room that has place for all of them, from `at` on. One by one: `copy_from_slice` of a length that the compiler does not know is a
+// call of memmove, which an archive for C would then need from outside.
+#[tactic(auto, using(crate::proofs::Rooms::one_byte_more))]
+pub fn lay_bytes(out: &mut [u8], at: usize, bytes: &[u8])
+    requires { at + length bytes.now ≤ length out.old }
+    ensures { out.new ≡ sets out.old at bytes.now }
+{
+    for (k, b) in bytes.iter().enumerate() {
+        out[at + k] = *b;
     }
 }
 

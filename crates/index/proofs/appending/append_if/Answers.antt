@@ -1,9 +1,9 @@
-use mathlib.Core.Path.{refl, sym, ap, ◌∙◌}
+use mathlib.Core.Path.{refl, sym, ◌∙◌}
 use Rattle.std.proofs.lemmas.Result.{err_from_is_err_and}
 use Rattle.journal.proofs.Refused.{not_0}
 use Rattle.index.specs.Calls.{append_refused}
 use Rattle.index.proofs.Longer.{not_extended, by_the_number}
-use Rattle.index.proofs.Refusing.{ends, fits_room, found_index, by_journal, by_index, by_last}
+use Rattle.index.proofs.Refusing.{ends, fits_room, append_tested, by_journal, by_index, by_last}
 use Rattle.index.proofs.appending.append_if.Goals as goal
 
 pub returns-in_err-fresh : goal.returns-in_err-fresh
@@ -11,14 +11,13 @@ unfolding append_refused
 returns-in_err-fresh g c = let a = c.args in
     let p = err_from_is_err_and c.from_residual.result c.from_residual.ensures.1 in
     let known = rw c.in_err-fresh.was at c.requires.found_value in
-    rw (p.1, p.2) (not_extended a.room.now a.len a.more.now _ _ (by_journal a.room.now a.len _ known _ _ (not_0 _)))
+    rw (p.1, p.2) (not_extended a.room.now a.len a.more.now _ _ (by_journal a.room.now a.len _ known _ _ (not_0 _) ∙ append_tested a.room.now a.len _ known (g.K.Kept.tells a.kept.now) a.more.now))
 
 pub returns-then-not-is : goal.returns-then-not-is
 unfolding append_refused
 returns-then-not-is g c = let a = c.args in
     let known = rw c.in_ok-fresh.was at c.requires.found_value in
-    let same = ap (g.K.Kept.tells a.kept.now) (found_index a.room.now a.len _ known refl) in
-    not_extended a.room.now a.len a.more.now _ _ (by_index a.room.now a.len _ known _ _ refl (sym same ∙ (sym c.is.ensures ∙ c.if-not-is.true)))
+    not_extended a.room.now a.len a.more.now _ _ (by_index a.room.now a.len _ known _ _ refl (sym c.is.ensures ∙ c.if-not-is.true) ∙ append_tested a.room.now a.len _ known (g.K.Kept.tells a.kept.now) a.more.now)
 
 pub extend-requires-clause-room_len : goal.extend-requires-clause-room_len
 extend-requires-clause-room_len g c = let a = c.args in
@@ -29,5 +28,4 @@ pub returns : goal.returns
 unfolding append_refused
 returns g c = let a = c.args in
     let known = rw c.in_ok-fresh.was at c.requires.found_value in
-    let same = ap (g.K.Kept.tells a.kept.now) (found_index a.room.now a.len _ known refl) in
-    by_the_number (by_last a.room.now a.len _ known _ _ refl (sym same ∙ (sym c.is.ensures ∙ c.if-not-is.false))) c.extend.ensures
+    by_the_number (by_last a.room.now a.len _ known _ _ refl (sym c.is.ensures ∙ c.if-not-is.false) ∙ append_tested a.room.now a.len _ known (g.K.Kept.tells a.kept.now) a.more.now) c.extend.ensures

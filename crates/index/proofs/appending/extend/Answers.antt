@@ -4,7 +4,6 @@ use native.Mathlib.Omega.{arith}
 use lib.ListN.{length}
 use Rattle.std.proofs.lemmas.Result.{err_from_is_err_and}
 use Rattle.journal.specs.Header.{largest}
-use Rattle.journal.proofs.Laying.{copied}
 use Rattle.index.proofs.Longer.{too_long, number_longer, updated_longer, not_extended, extended, roomy_on}
 use Rattle.index.proofs.appending.extend.Goals as goal
 
@@ -29,4 +28,4 @@ returns c = let a = c.args in
     let short : length a.more.now ≤ largest - a.len = omega arith in
     let longer = number_longer a.room.now a.len a.fresh a.more.now c.requires.room_len.0 c.requires.room_len.1 c.requires.len_value short _ version in
     let updated = updated_longer a.room.now a.len a.fresh a.more.now c.requires.room_len.0 c.requires.room_len.1 c.requires.len_value short _ version _ c.records-count.ensures.value in
-    extended a.room.now a.len a.more.now _ (longer ∙ sym said.number_value) _ (said.index_after ∙ updated) _ (copied a.room.now a.more.now _ a.len (omega (arith, short, c.requires.room_len.0, c.requires.room_len.1)) c.copy_from_slice.ensures.after)
+    extended a.room.now a.len a.more.now _ (longer ∙ sym said.number_value) _ (said.index_after ∙ updated) _ c.lay_bytes.ensures

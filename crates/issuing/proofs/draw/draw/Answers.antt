@@ -1,4 +1,4 @@
-use mathlib.Core.Path.{ap, ap₂, ◌∙◌}
+use mathlib.Core.Path.{ap₂, ◌∙◌}
 use mathlib.Core.List.{List, ◌∷◌, append-nil}
 use Prim.Native.Nat.{ℕ}
 use Rattle.issuing.proofs.draw.draw.Goals as goal

@@ -18,7 +18,7 @@ pub loop-k-preserved : goal.loop-k-preserved
 loop-k-preserved c = let b = in_blocks _ c.requires in
     record {
       whole = omega arith;
-      left = hash_more _ _ _ _ _ _ c.loop-k-test.true b c.loop-k.invariant.whole (rw c.message.ensures at c.compress-g.ensures) c.loop-k.invariant.left;
+      left = hash_more _ _ _ _ _ _ c.loop-k-test.true b c.loop-k.invariant.whole (rw c.message.ensures at c.compress_in-g.ensures) c.loop-k.invariant.left;
     }
 
 pub returns : goal.returns
@@ -26,4 +26,4 @@ returns c = hash_done _ c.args.ws.now _ _ c.loop-k.k c.loop-k-test.false c.loop-
 
 pub returns-2 : goal.returns-2
 returns-2 c = let b = in_blocks _ c.requires in
-    hash_done _ c.args.ws.now _ _ (c.loop-k.k + 16) (omega arith) (hash_more _ _ _ _ _ _ c.loop-k-test.true b c.loop-k.invariant.whole (rw c.message.ensures at c.compress-g.ensures) c.loop-k.invariant.left)
+    hash_done _ c.args.ws.now _ _ (c.loop-k.k + 16) (omega arith) (hash_more _ _ _ _ _ _ c.loop-k-test.true b c.loop-k.invariant.whole (rw c.message.ensures at c.compress_in-g.ensures) c.loop-k.invariant.left)

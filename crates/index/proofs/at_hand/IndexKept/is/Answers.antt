@@ -1,10 +1,6 @@
-use mathlib.Core.Path.{refl, ◌∙◌}
-use Rattle.index.specs.Calls.{same_index}
-use Rattle.index.proofs.Alike.{pointwise_same}
+use mathlib.Core.Path.{◌∙◌}
+use Rattle.index.proofs.Alike.{derived}
 use Rattle.index.proofs.at_hand.IndexKept.is.Goals as goal
 
 pub returns : goal.returns
-unfolding same_index
-returns c = let a = c.args.self.now in
-    let b = c.args.it.now in
-    c.eq.ensures ∙ rw (pointwise_same a.places b.places, pointwise_same a.kinds b.kinds) refl
+returns c = c.eq.ensures ∙ derived c.args.self.now c.args.it.now

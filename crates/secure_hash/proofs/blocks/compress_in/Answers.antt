@@ -4,7 +4,7 @@ use Rattle.words.specs.Words.{add}
 use Rattle.secure_hash.specs.Sha1.{run, compressed}
 use Rattle.secure_hash.proofs.Held.{holds_block, holds_turns}
 use Rattle.secure_hash.proofs.Fours.{more_steps, last_steps}
-use Rattle.secure_hash.proofs.blocks.compress.Goals as goal
+use Rattle.secure_hash.proofs.blocks.compress_in.Goals as goal
 
 -- before step t the ring holds W_t to W_t+15, and the steps before it are done
 
@@ -19,8 +19,8 @@ loop-t-preserved c = let t = c.loop-t.t in (
   search rules,
   search rules,
   search rules,
-  rw c.next_four.ensures (holds_turns c.args.m c.loop-t.w t 4 (omega arith) (omega arith) c.loop-t.invariant.3),
-  more_steps c.args.m c.loop-t.w c.args.h c.loop-t.s _ t 4 (omega arith) c.loop-t.invariant.3 c.loop-t.invariant.4 c.four-r.ensures,
+  rw c.next_four.ensures (holds_turns c.args.w.now c.loop-t.w t 4 (omega arith) (omega arith) c.loop-t.invariant.3),
+  more_steps c.args.w.now c.loop-t.w c.args.h c.loop-t.s _ t 4 (omega arith) c.loop-t.invariant.3 c.loop-t.invariant.4 c.four-r.ensures,
 )
 
 pub loop-t-2-init : goal.loop-t-2-init
@@ -36,4 +36,4 @@ returns c = let e : c.loop-t.t ≡ 64 = omega arith in
     let d : c.loop-t-2.t - 64 ≡ 16 = omega arith in
     c.add_words.ensures
     ∙ ap (λ (x : List ℕ). zip_with add x c.args.h)
-    (more_steps c.args.m c.loop-t.w c.args.h c.loop-t.s _ 64 16 (omega arith) (rw e at c.loop-t.invariant.3) (rw e at c.loop-t.invariant.4) (rw d at c.loop-t-2.invariant.3))
+    (more_steps c.args.w.now c.loop-t.w c.args.h c.loop-t.s _ 64 16 (omega arith) (rw e at c.loop-t.invariant.3) (rw e at c.loop-t.invariant.4) (rw d at c.loop-t-2.invariant.3))

@@ -1,7 +1,7 @@
 use Rattle.std.proofs.Common.{◌≡◌, ◌-◌, ◌%◌, ◌≤◌, length}
 use Rattle.secure_hash.specs.Sha1.{run, schedule}
 use Rattle.secure_hash.proofs.Held.{Holds}
-use Rattle.secure_hash.proofs.blocks.compress.Given as goal
+use Rattle.secure_hash.proofs.blocks.compress_in.Given as goal
 
 abbrev pub invariant-loop-t : goal.invariant-loop-t
 invariant-loop-t l = (l.t ≤ 64) × (l.t % 4 ≡ 0) × (length l.initial.w ≡ 16) × Holds l.initial.w l.t l.w × (l.s ≡ run 0 (schedule l.initial.w 64) l.t l.initial.s)
