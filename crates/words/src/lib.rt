@@ -4,8 +4,8 @@
 // little endian, and reads them back; `room` lays them into a room that is lent. A sum of two words that wraps is the library's `wrapping_add`, which is the definition `add` of
 // specs/Words.antt.
 //
-// Each function is total: none has a `requires`, and each contract is one equation with a definition of specs/, or with plain arithmetic. What a
-// further crate needs to know of the definitions (bounds, round trips, a loop that adds word by word) is proved once in
+// Each function is total: none has a `requires` but `lay_bytes`, which asks for a room that has place. Each contract is one equation with a definition
+// of specs/, or with plain arithmetic. What a further crate needs to know of the definitions (bounds, round trips, a loop that adds word by word) is proved once in
 // proofs/, and cited from there.
 #![tactic(auto)]
 

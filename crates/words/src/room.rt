@@ -1,4 +1,4 @@
-// Bytes laid into a room that is lent. What would lie past the room's end is dropped.
+// Bytes laid into a room that is lent. What would lie past the room's end is dropped; `lay_bytes` asks that nothing does.
 ghost use Rattle.std.specs.Prelude.{◌≡◌, ◌+◌, ◌≤◌, length, slice_set};
 ghost use Rattle.std.proofs.lemmas.List.Edits.{sets};
 ghost use Rattle.words.specs.Bytes.{le_bytes};
